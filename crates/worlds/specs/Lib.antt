@@ -1,0 +1,5 @@
+-- The subject: worlds and literals, what a step does to a world, tickets as values.
+pub mod Worlds
+pub mod Steps
+pub mod Tickets
+pub mod Meaning

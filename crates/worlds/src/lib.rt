@@ -1,0 +1,2 @@
+pub mod few;
+pub mod step;
