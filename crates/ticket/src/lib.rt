@@ -1,1 +1,6 @@
+pub mod laws;
 pub mod refusal;
+mod part;
+mod kinds;
+mod chain_reader;
+mod draft;

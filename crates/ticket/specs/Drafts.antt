@@ -1,0 +1,32 @@
+-- What it is to gather the records of a chain, one after another.
+use mathlib.Core.Path.{_≡_}
+use mathlib.Core.List.{List, [], _∷_, _++_}
+use Prim.Native.Nat.{ℕ}
+use Rattle.std.specs.declared.option.Option.the-variants.{Some, None}
+use Rattle.std.specs.declared.result.Result.{Result}
+use Rattle.std.specs.declared.result.Result.the-variants.{Ok, Err}
+use Rattle.std.specs.declared.option.Option.{Option}
+use Rattle.ticket.specs.declared.part.Part.{Part}
+use Rattle.ticket.specs.declared.refusal.Refusal.{Refusal}
+use Rattle.ticket.specs.Layout.{part, kind, below}
+use Rattle.ticket.specs.Content.{chain}
+use Rattle.ticket.specs.Chains.{Handed}
+use Rattle.ticket.specs.Judging.{Place, Judged, record-fault, under}
+
+-- neither record k nor anything under it is at fault
+pub record Sound (f : List ℕ) (n : ℕ) (place : Place) (earlier : List ℕ) (k : ℕ) : Type 0 where
+  pub itself : record-fault f n place earlier k ≡ None
+  pub chain-under : Judged f n (under (kind (part f k)) earlier) k [] (below (part f k)) None
+
+-- what adding record k to a draft answers: `was` and `is` say of some records that the draft held them before, and
+-- holds them now
+abbrev pub Added : List ℕ → ℕ → Place → List ℕ → ℕ → (List ℕ → Type 0) → Result (Unit {0}) Refusal → Type 0
+Added f n place earlier k is (Ok x) = Sound f n place earlier k × is (earlier ++ k ∷ [])
+Added f n place earlier k is (Err r) = (above : ℕ) → Judged f n place above earlier k (Some r)
+
+-- what gathering the chain from record k answers: all of it is held and what is left to judge is its end, or the
+-- first fault
+abbrev pub Gathered : List ℕ → ℕ → Place → ℕ → (List ℕ → Type 0) → Result (Unit {0}) Refusal → Type 0
+Gathered f n place k is (Ok x) =
+    is (chain f k) × ((above : ℕ) (v : Option Refusal) → Judged f n place above (chain f k) 0 v → Judged f n place above [] k v)
+Gathered f n place k is (Err r) = (above : ℕ) → Judged f n place above [] k (Some r)

@@ -1,0 +1,47 @@
+// One record of a ticket file: its number and the eight bytes that it covers.
+ghost use mathlib.Core.Path.{_≡_};
+ghost use Rattle.ticket.specs.Layout.{kind, value, below, next};
+use crate::refusal::Fault;
+use crate::refusal::Refusal;
+
+#[derive(Clone, Copy)]
+pub(crate) struct Part<'a> {
+    pub(crate) number: u16,
+    pub(crate) bytes: &'a [u8; 8],
+}
+
+impl Part<'_> {
+    pub(crate) fn kind(&self) -> u16
+        ensures { λ r. ⌜ r ≡ kind (now (now (self .entry) .bytes)) ⌝ }
+    {
+        let b = self.bytes;
+        u16::from_le_bytes([b[0], b[1]])
+    }
+
+    pub(crate) fn value(&self) -> i16
+        ensures { λ r. ⌜ r ≡ value (now (now (self .entry) .bytes)) ⌝ }
+    {
+        let b = self.bytes;
+        i16::from_le_bytes([b[2], b[3]])
+    }
+
+    pub(crate) fn below(&self) -> u16
+        ensures { λ r. ⌜ r ≡ below (now (now (self .entry) .bytes)) ⌝ }
+    {
+        let b = self.bytes;
+        u16::from_le_bytes([b[4], b[5]])
+    }
+
+    pub(crate) fn next(&self) -> u16
+        ensures { λ r. ⌜ r ≡ next (now (now (self .entry) .bytes)) ⌝ }
+    {
+        let b = self.bytes;
+        u16::from_le_bytes([b[6], b[7]])
+    }
+
+    pub(crate) fn refused(&self, fault: Fault) -> Refusal
+        ensures { λ r. ⌜ r ≡ record { fault = fault; «record» = now (self .entry) .number } ⌝ }
+    {
+        Refusal { fault, record: self.number }
+    }
+}
