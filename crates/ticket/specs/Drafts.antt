@@ -8,6 +8,7 @@ use Rattle.std.specs.declared.result.Result.the-variants.{Ok, Err}
 use Rattle.std.specs.declared.option.Option.{Option}
 use Rattle.ticket.specs.declared.part.Part.{Part}
 use Rattle.ticket.specs.declared.refusal.Refusal.{Refusal}
+use Rattle.ticket.specs.declared.refusal.Fault.{Fault}
 use Rattle.ticket.specs.Layout.{part, kind, below}
 use Rattle.ticket.specs.Content.{chain}
 use Rattle.ticket.specs.Chains.{Handed}
@@ -30,3 +31,8 @@ abbrev pub Gathered : List ℕ → ℕ → Place → ℕ → (List ℕ → Type 
 Gathered f n place k is (Ok x) =
     is (chain f k) × ((above : ℕ) (v : Option Refusal) → Judged f n place above (chain f k) 0 v → Judged f n place above [] k v)
 Gathered f n place k is (Err r) = (above : ℕ) → Judged f n place above [] k (Some r)
+
+-- the answer at record k where its own fault, if any, is this
+abbrev pub verdict : ℕ → Option Fault → Result (Unit {0}) Refusal
+verdict k None = Ok tt
+verdict k (Some x) = Err (record { fault = x; «record» = k })

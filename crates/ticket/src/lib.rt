@@ -4,3 +4,4 @@ mod part;
 mod kinds;
 mod chain_reader;
 mod draft;
+mod rules;

@@ -3,3 +3,4 @@ pub mod Worlds
 pub mod Steps
 pub mod Tickets
 pub mod Meaning
+pub mod Laws

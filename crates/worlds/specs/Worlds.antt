@@ -64,3 +64,8 @@ has-literal l (k ∷ ks) = same-literal l k || has-literal l ks
 abbrev pub consistent : List Literal → Bool
 consistent [] = true
 consistent (l ∷ ls) = not (has-literal (opposite l) ls) && consistent ls
+
+-- whether no literal of one list has its opposite in another
+abbrev pub compatible : List Literal → List Literal → Bool
+compatible [] ks = true
+compatible (l ∷ ls) ks = not (has-literal (opposite l) ks) && compatible ls ks

@@ -1,2 +1,3 @@
 pub mod few;
+pub mod laws;
 pub mod step;
