@@ -6,5 +6,6 @@ pub mod Content
 pub mod Chains
 pub mod Judging
 pub mod Drafts
+pub mod Gathers
 pub mod Answers
 pub mod OneAnswer

@@ -4,6 +4,7 @@ ghost use Rattle.ticket.specs.Kinds.{shown};
 ghost use Rattle.ticket.specs.Layout.{kind};
 use crate::part::Part;
 
+#[derive(Clone, Copy)]
 pub(crate) enum Record<'a> {
     Term(Part<'a>),
     Aim(Part<'a>),

@@ -5,3 +5,5 @@ mod kinds;
 mod chain_reader;
 mod draft;
 mod rules;
+mod literals;
+mod literal_list;
