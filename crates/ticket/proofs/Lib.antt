@@ -1,3 +1,4 @@
 pub mod Walks
 pub mod Verdicts
 pub mod Records
+pub mod Scans

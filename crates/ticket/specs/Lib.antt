@@ -6,6 +6,7 @@ pub mod Content
 pub mod Chains
 pub mod Judging
 pub mod Drafts
+pub mod Conflicts
 pub mod Gathers
 pub mod Answers
 pub mod OneAnswer

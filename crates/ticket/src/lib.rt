@@ -4,6 +4,7 @@ mod part;
 mod kinds;
 mod chain_reader;
 mod draft;
+mod opposites;
 mod rules;
 mod literals;
 mod literal_list;

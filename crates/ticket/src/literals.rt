@@ -13,7 +13,7 @@ ghost use Rattle.ticket.specs.Drafts.{verdict};
 use crate::part::Part;
 use crate::refusal::Fault;
 use crate::refusal::Refusal;
-use crate::rules::is_opposed;
+use crate::opposites::is_opposed;
 use worlds::few::Few;
 
 // Adds the literal of a record to the list of its chain, or says what is at fault with the record.

@@ -1,10 +1,7 @@
 // The rules that a single record is judged by.
 ghost use mathlib.Core.Path.{_≡_};
-ghost use mathlib.Core.Bool.{true, false};
-ghost use Prim.Native.Nat.{_≤_};
-ghost use mir.Syntax.{w16};
-ghost use mir.Val.{SFits};
-ghost use Rattle.worlds.specs.Worlds.{speaks-within, has-literal, opposite};
+ghost use mathlib.Core.Bool.{false};
+ghost use Rattle.worlds.specs.Worlds.{speaks-within};
 ghost use Rattle.ticket.specs.Layout.{kind};
 ghost use Rattle.ticket.specs.Judging.{value-good, class-good, is-zero, fault-of};
 ghost use Rattle.ticket.specs.Drafts.{verdict};
@@ -40,22 +37,6 @@ fn value_good(n: u16, kind: u16, value: i16) -> bool
         3 | 4 => class_good(value),
         _ => speaks_within(n, value),
     }
-}
-
-fn contrary_of(literal: i16) -> i16
-    requires { ⌜ SFits w16 (opposite literal) ⌝ }
-    ensures { λ r. ⌜ r ≡ opposite literal ⌝ }
-{
-    -literal
-}
-
-// Whether the opposite of a literal is in a list.
-pub(crate) fn is_opposed(list: &[i16], literal: i16) -> bool
-    requires { ⌜ SFits w16 (opposite literal) ⌝ }
-    ensures { λ r. ⌜ r ≡ has-literal (opposite literal) (now (list .entry)) ⌝ }
-{
-    let contrary = contrary_of(literal);
-    list.contains(&contrary)
 }
 
 impl Part<'_> {
