@@ -2,3 +2,4 @@ pub mod Walks
 pub mod Verdicts
 pub mod Records
 pub mod Scans
+pub mod Clashes

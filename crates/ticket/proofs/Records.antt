@@ -197,3 +197,7 @@ not-literal p never e = never p (ap (λ d. shown d p) e)
 
 pub other-group : (kd : ℕ) → (kd ≡ 5 → ⊥) → eqb (group kd) 5 ≡ false
 other-group kd h = grind (arith, tells)
+
+-- the list without literals is lawful
+pub lawful-none : (n most : ℕ) (list : List Literal) → list ≡ [] → lawful-list n most list ≡ true
+lawful-none n most list e = rw e (and-from _ _ (le-leb 0 most (omega arith)) refl)

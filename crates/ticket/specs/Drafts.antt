@@ -36,3 +36,10 @@ Gathered f n place k is (Err r) = (above : ℕ) → Judged f n place above [] k 
 abbrev pub verdict : ℕ → Option Fault → Result (Unit {0}) Refusal
 verdict k None = Ok tt
 verdict k (Some x) = Err (record { fault = x; «record» = k })
+
+-- what reading the chain from record k into a value answers: the value is what the chain holds, as `is` says, and what is
+-- left to judge is the chain's end, or the first fault
+abbrev pub Reads : {X : Type 0} → List ℕ → ℕ → Place → ℕ → (X → Type 0) → Result X Refusal → Type 0
+Reads f n place k is (Ok x) =
+    is x × ((above : ℕ) (v : Option Refusal) → Judged f n place above (chain f k) 0 v → Judged f n place above [] k v)
+Reads f n place k is (Err r) = (above : ℕ) → Judged f n place above [] k (Some r)
