@@ -3,3 +3,4 @@ pub mod Verdicts
 pub mod Records
 pub mod Scans
 pub mod Clashes
+pub mod Effects

@@ -9,7 +9,7 @@ use lib.Dec.{eqb, leb, ltb, lit<}
 use lib.IntN.{ℤ}
 use lib.ListN.{length, length-map, length-append}
 use Rattle.std.proofs.shelf.Lists.{map-append}
-use Rattle.std.proofs.shelf.Tests.{cond-true, cond-false, or-parts, or-left, and-parts, and-from, eqb-true, leb-false, le-leb, not-false, false≢true, true≢false}
+use Rattle.std.proofs.shelf.Tests.{cond-true, cond-false, or-parts, or-left, and-parts, and-from, and-left, eqb-true, leb-false, le-leb, not-false, false≢true, true≢false}
 use Rattle.std.proofs.shelf.Elements.{kept-by-append}
 use Rattle.std.proofs.shelf.Ways.{tells}
 use Rattle.std.specs.declared.option.Option.{Option}
@@ -201,3 +201,38 @@ other-group kd h = grind (arith, tells)
 -- the list without literals is lawful
 pub lawful-none : (n most : ℕ) (list : List Literal) → list ≡ [] → lawful-list n most list ≡ true
 lawful-none n most list e = rw e (and-from _ _ (le-leb 0 most (omega arith)) refl)
+
+-- a record with a chain under it, as the code goes about it: first the record by itself, then the chain
+module _ (f : List ℕ) (n : ℕ) (place : Place) (earlier : List ℕ) (k : ℕ) (p : Part) (h : Handed f k p) (kd most standing : ℕ) (e : kind (p .bytes .now) ≡ kd) (space : room place (group kd) ≡ most) (count : length (among f (group kd) earlier) ≡ standing) (other : eqb kd 5 ≡ false) where
+  -- the fault that the code looks for
+  abbrev pub sought : Option Fault
+  sought = fault-of n (kind (p .bytes .now)) most standing false (p .bytes .now)
+
+  kind-here : kind (part f k) ≡ kd
+  kind-here = ap kind (sym (h .bytes)) ∙ e
+
+  sought-is : record-fault f n place earlier k ≡ sought
+  sought-is =
+      let free : opposed f earlier kd (part f k) ≡ false = and-left _ _ other in
+      let back = sym e in
+      let bytes = sym (h .bytes) in
+      fault-at f n place earlier k kd (h .links) kind-here ∙ (λ i. fault-of n (back i) (space i) (count i) (free i) (bytes i))
+
+  pub own-broke : (r : Refusal) → Err r ≡ verdict (p .number) sought → (above : ℕ) → Judged f n place above earlier k (Some r)
+  own-broke r v = itself-faulty f n place earlier k sought sought-is (h .some) r (v ∙ ap (λ j. verdict j sought) (h .number))
+
+  pub own-passed : (u : Unit {0}) → Ok u ≡ verdict (p .number) sought → (record-fault f n place earlier k ≡ None) × Passes n kd most standing false (p .bytes .now)
+  own-passed u v =
+      let clean = itself-sound f n place earlier k sought sought-is u (v ∙ ap (λ j. verdict j sought) (h .number)) in
+      (sought-is ∙ clean, subst (λ d. Passes n d most standing false (p .bytes .now)) e (passes _ _ _ _ _ _ clean))
+
+  -- the chain under it, which the code reads from `first` on
+  pub below-broke : record-fault f n place earlier k ≡ None → (first : ℕ) → first ≡ below (p .bytes .now) → (r : Refusal) → Judged f n (under kd earlier) k [] first (Some r) → (above : ℕ) → Judged f n place above earlier k (Some r)
+  below-broke clean first at r d above = faulty-below r (h .some) clean (subst (λ q. Judged f n q k [] (below (part f k)) (Some r)) (ap (λ j. under j earlier) (sym kind-here)) (subst (λ j. Judged f n (under kd earlier) k [] j (Some r)) (at ∙ ap below (h .bytes)) d)) refl
+
+  pub below-sound : record-fault f n place earlier k ≡ None → (first : ℕ) → first ≡ below (p .bytes .now) → Judged f n (under kd earlier) k [] first None → Sound f n place earlier k
+  below-sound clean first at d =
+      record {
+        itself = clean;
+        chain-under = subst (λ q. Judged f n q k [] (below (part f k)) None) (ap (λ j. under j earlier) (sym kind-here)) (subst (λ j. Judged f n (under kd earlier) k [] j None) (at ∙ ap below (h .bytes)) d);
+      }

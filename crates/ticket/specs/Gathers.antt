@@ -1,13 +1,22 @@
 -- What each draft holds of the records that were added to it.
 use mathlib.Core.Path.{_≡_}
-use mathlib.Core.Bool.{true, cond}
+use mathlib.Core.Bool.{true, false, cond}
 use mathlib.Core.List.{List, map}
-use Prim.Native.Nat.{ℕ}
+use Prim.Native.Nat.{ℕ, _<_}
 use lib.Dec.{eqb}
 use Rattle.worlds.specs.Worlds.{Literal}
-use Rattle.worlds.specs.Tickets.{lawful-list}
-use Rattle.ticket.specs.Content.{literals-among, literals-from}
-use Rattle.ticket.specs.Judging.{Place, room}
+use lib.ListN.{length}
+use Rattle.std.specs.declared.option.Option.the-variants.{Some, None}
+use Rattle.std.specs.declared.result.Result.{Result}
+use Rattle.std.specs.declared.result.Result.the-variants.{Ok, Err}
+use Rattle.worlds.specs.Steps.{Effect, Outcome, Step}
+use Rattle.worlds.specs.Tickets.{lawful-list, lawful-effect, lawful-outcome, clashes}
+use Rattle.worlds.specs.Meaning.{effect-of}
+use Rattle.worlds.specs.declared.step.Effect as code-effect
+use Rattle.ticket.specs.declared.refusal.Refusal.{Refusal}
+use Rattle.ticket.specs.Content.{among, literals-among, literals-from, effect-at}
+use Rattle.ticket.specs.Judging.{Place, room, under-outcome, Judged}
+use Rattle.ticket.specs.Drafts.{Sound}
 
 -- a chain at a place that takes up to so many literals and nothing else: the list has the literals of its records
 pub record HoldsLiterals (most : ℕ) (list : List Literal) (f : List ℕ) (n : ℕ) (place : Place) (ks : List ℕ) : Type 0 where
@@ -19,3 +28,22 @@ pub record HoldsLiterals (most : ℕ) (list : List Literal) (f : List ℕ) (n : 
 pub record ListRead (most : ℕ) (f : List ℕ) (n k : ℕ) (list : List Literal) : Type 0 where
   pub same : list ≡ literals-from f k
   pub lawful : lawful-list n most list ≡ true
+
+-- the chain under an outcome: the draft has the effects of its records, which are all of kind 7
+pub record HoldsEffects (effects : Outcome) (f : List ℕ) (n : ℕ) (place : Place) (ks : List ℕ) : Type 0 where
+  pub where-it-is : place ≡ under-outcome
+  pub all : among f 7 ks ≡ ks
+  pub same : effects ≡ map (effect-at f) ks
+  pub lawful : lawful-outcome n effects ≡ true
+
+-- what reading the effect of record k answers, after the effects of the records ks
+pub record EffectRead (f : List ℕ) (n : ℕ) (ks : List ℕ) (k : ℕ) (earlier : Outcome) (e : Effect) : Type 0 where
+  pub sound : Sound f n under-outcome ks k
+  pub same : e ≡ effect-at f k
+  pub lawful : lawful-effect n e ≡ true
+  pub apart-from : clashes n earlier e ≡ false
+  pub room-left : length earlier < 4
+
+abbrev pub ReadsEffect : List ℕ → ℕ → List ℕ → ℕ → Outcome → Result code-effect.Effect Refusal → Type 0
+ReadsEffect f n ks k earlier (Ok e) = EffectRead f n ks k earlier (effect-of e)
+ReadsEffect f n ks k earlier (Err r) = (above : ℕ) → Judged f n under-outcome above ks k (Some r)

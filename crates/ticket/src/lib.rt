@@ -6,5 +6,6 @@ mod chain_reader;
 mod draft;
 mod opposites;
 mod rules;
+mod effect_list;
 mod literals;
 mod literal_list;

@@ -1,0 +1,39 @@
+// The effects of the chain under an outcome.
+ghost use mathlib.Core.Path.{_≡_};
+ghost use mathlib.Core.Bool.{true, _&&_};
+ghost use mathlib.Core.List.{List, map};
+ghost use Prim.Native.Nat.{ℕ, _≤_};
+ghost use lib.ListN.{length};
+ghost use Rattle.worlds.specs.Meaning.{listed, effect-of};
+ghost use Rattle.worlds.specs.Tickets.{every, lawful-effect};
+ghost use Rattle.ticket.specs.Layout.{inside, below, kind};
+ghost use Rattle.ticket.specs.Content.{among, effect-at};
+ghost use Rattle.ticket.specs.Chains.{Handed};
+ghost use Rattle.ticket.specs.Judging.{under-outcome};
+ghost use Rattle.ticket.specs.Drafts.{Reads};
+ghost use Rattle.ticket.specs.Gathers.{HoldsEffects, ReadsEffect};
+use crate::draft::Draft;
+use crate::draft::gather;
+use crate::kinds::Record;
+use crate::literal_list::read_conditions;
+use crate::opposites::is_clashing;
+use crate::part::Part;
+use crate::refusal::Fault;
+use crate::refusal::Refusal;
+use worlds::few::Few;
+use worlds::step::Effect;
+use worlds::step::Outcome;
+
+// Reads one effect, after the earlier ones of its outcome.
+fn read_effect<'a>(file: &'a [u8], n: u16, part: Part<'a>, earlier: &[Effect]) -> Result<Effect, Refusal>
+    requires { ⌜ (inside (now file) (below (now (part .bytes))) ≡ true) × (n ≤ 32) ⌝ }
+    ensures { λ r. ⌜ ((ks : List ℕ) → Handed (now (file .entry)) (part .entry .number) (part .entry) → kind (now (part .entry .bytes)) ≡ 7 → length (among (now (file .entry)) 7 ks) ≡ length (now (earlier .entry)) → map effect-of (now (earlier .entry)) ≡ map (effect-at (now (file .entry))) ks → every (lawful-effect n) (map effect-of (now (earlier .entry))) ≡ true → ReadsEffect (now (file .entry)) n ks (part .entry .number) (map effect-of (now (earlier .entry))) r) ⌝ }
+{
+    part.judged(n, 4, earlier.len())?;
+    let conditions = read_conditions(file, n, part.below())?;
+    let effect = Effect { conditions, result: part.value() };
+    if is_clashing(earlier, &effect) {
+        return Err(part.refused(Fault::Opposite));
+    }
+    Ok(effect)
+}
