@@ -30,7 +30,7 @@ use Rattle.ticket.specs.Kinds.{shown}
 use Rattle.ticket.specs.Layout.{kind, value, below, part, links-good, group}
 use Rattle.ticket.specs.Content.{among, literals-among, literal-at}
 use Rattle.ticket.specs.Chains.{Handed}
-use Rattle.ticket.specs.Judging.{Place, room, under, bare, value-good, fault-of, opposed, fault-as, record-fault, Judged, ended, faulty, faulty-below, under-literal}
+use Rattle.ticket.specs.Judging.{Place, room, under, bare, value-good, fault-of, opposed, fault-as, record-fault, Judged, ended, faulty, faulty-below, under-literal, under-outcome, under-action, under-sensing, at-top}
 use Rattle.ticket.specs.Drafts.{Sound, Added, verdict}
 
 -- the kind that a record is shown as (0: unknown), and its part
@@ -139,11 +139,17 @@ module _ (f : List ℕ) (ks : List ℕ) (k kd : ℕ) (e : kind (part f k) ≡ kd
   among-one g =
       kept-by-append (λ j. eqb (group (kind (part f j))) g) ks (k ∷ []) ∙ ap (λ d. among f g ks ++ cond (eqb (group d) g) (k ∷ []) []) e
 
+  pub among-more : (g : ℕ) → eqb (group kd) g ≡ true → among f g (ks ++ k ∷ []) ≡ among f g ks ++ k ∷ []
+  among-more g h = among-one g ∙ ap (λ b. among f g ks ++ cond b (k ∷ []) []) h
+
+  pub among-same : (g : ℕ) → eqb (group kd) g ≡ false → among f g (ks ++ k ∷ []) ≡ among f g ks
+  among-same g h = among-one g ∙ ap (λ b. among f g ks ++ cond b (k ∷ []) []) h ∙ append-nil (among f g ks)
+
   pub gathers-more : {X : Type 0} (at : ℕ → X) (g : ℕ) → eqb (group kd) g ≡ true → map at (among f g (ks ++ k ∷ [])) ≡ map at (among f g ks) ++ at k ∷ []
-  gathers-more at g h = ap (map at) (among-one g ∙ ap (λ b. among f g ks ++ cond b (k ∷ []) []) h) ∙ map-append at (among f g ks) (k ∷ [])
+  gathers-more at g h = ap (map at) (among-more g h) ∙ map-append at (among f g ks) (k ∷ [])
 
   pub gathers-same : {X : Type 0} (at : ℕ → X) (g : ℕ) → eqb (group kd) g ≡ false → map at (among f g (ks ++ k ∷ [])) ≡ map at (among f g ks)
-  gathers-same at g h = ap (map at) (among-one g ∙ ap (λ b. among f g ks ++ cond b (k ∷ []) []) h ∙ append-nil (among f g ks))
+  gathers-same at g h = ap (map at) (among-same g h)
 
 -- a lawful list with one literal more
 pub lawful-more : (n most : ℕ) (list : List Literal) (l : Literal) → lawful-list n most list ≡ true → length list < most → speaks-within n l ≡ true → has-literal (opposite l) list ≡ false → lawful-list n most (list ++ l ∷ []) ≡ true
@@ -236,3 +242,16 @@ module _ (f : List ℕ) (n : ℕ) (place : Place) (earlier : List ℕ) (k : ℕ)
         itself = clean;
         chain-under = subst (λ q. Judged f n q k [] (below (part f k)) None) (ap (λ j. under j earlier) (sym kind-here)) (subst (λ j. Judged f n (under kd earlier) k [] j None) (at ∙ ap below (h .bytes)) d);
       }
+
+-- what kinds cannot stand where
+pub no-room-outcome : (kd : ℕ) → (kd ≡ 7 → ⊥) → room under-outcome (group kd) ≡ 0
+no-room-outcome kd a = grind (arith, tells)
+
+pub no-room-action : (kd : ℕ) → (kd ≡ 5 → ⊥) → (kd ≡ 6 → ⊥) → room under-action (group kd) ≡ 0
+no-room-action kd a b = grind (arith, tells)
+
+pub no-room-sensing : (kd : ℕ) → (kd ≡ 5 → ⊥) → (kd ≡ 8 → ⊥) → room under-sensing (group kd) ≡ 0
+no-room-sensing kd a b = grind (arith, tells)
+
+pub no-room-top : (kd : ℕ) → (kd ≡ 1 → ⊥) → (kd ≡ 2 → ⊥) → (kd ≡ 3 → ⊥) → (kd ≡ 4 → ⊥) → room at-top (group kd) ≡ 0
+no-room-top kd a b c d = grind (arith, tells)

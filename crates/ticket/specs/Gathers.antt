@@ -14,7 +14,7 @@ use Rattle.worlds.specs.Tickets.{lawful-list, lawful-effect, lawful-outcome, cl
 use Rattle.worlds.specs.Meaning.{effect-of}
 use Rattle.worlds.specs.declared.step.Effect as code-effect
 use Rattle.ticket.specs.declared.refusal.Refusal.{Refusal}
-use Rattle.ticket.specs.Content.{among, literals-among, literals-from, effect-at}
+use Rattle.ticket.specs.Content.{chain, among, literals-among, literals-from, effect-at}
 use Rattle.ticket.specs.Judging.{Place, room, under-outcome, Judged}
 use Rattle.ticket.specs.Drafts.{Sound}
 
@@ -47,3 +47,8 @@ pub record EffectRead (f : List ℕ) (n : ℕ) (ks : List ℕ) (k : ℕ) (earlie
 abbrev pub ReadsEffect : List ℕ → ℕ → List ℕ → ℕ → Outcome → Result code-effect.Effect Refusal → Type 0
 ReadsEffect f n ks k earlier (Ok e) = EffectRead f n ks k earlier (effect-of e)
 ReadsEffect f n ks k earlier (Err r) = (above : ℕ) → Judged f n under-outcome above ks k (Some r)
+
+-- an outcome that was read: the effects of the chain from record k
+pub record OutcomeRead (f : List ℕ) (n k : ℕ) (o : Outcome) : Type 0 where
+  pub same : o ≡ map (effect-at f) (among f 7 (chain f k))
+  pub lawful : lawful-outcome n o ≡ true

@@ -4,14 +4,14 @@ ghost use mathlib.Core.Bool.{true, _&&_};
 ghost use mathlib.Core.List.{List, map};
 ghost use Prim.Native.Nat.{ℕ, _≤_};
 ghost use lib.ListN.{length};
-ghost use Rattle.worlds.specs.Meaning.{listed, effect-of};
+ghost use Rattle.worlds.specs.Meaning.{listed, effect-of, outcome-of};
 ghost use Rattle.worlds.specs.Tickets.{every, lawful-effect};
 ghost use Rattle.ticket.specs.Layout.{inside, below, kind};
 ghost use Rattle.ticket.specs.Content.{among, effect-at};
 ghost use Rattle.ticket.specs.Chains.{Handed};
 ghost use Rattle.ticket.specs.Judging.{under-outcome};
 ghost use Rattle.ticket.specs.Drafts.{Reads};
-ghost use Rattle.ticket.specs.Gathers.{HoldsEffects, ReadsEffect};
+ghost use Rattle.ticket.specs.Gathers.{HoldsEffects, ReadsEffect, OutcomeRead};
 use crate::draft::Draft;
 use crate::draft::gather;
 use crate::kinds::Record;
@@ -36,4 +36,33 @@ fn read_effect<'a>(file: &'a [u8], n: u16, part: Part<'a>, earlier: &[Effect]) -
         return Err(part.refused(Fault::Opposite));
     }
     Ok(effect)
+}
+
+#[derive(Copy)]
+struct EffectList {
+    effects: Few<Effect, 4>,
+}
+
+impl Draft for EffectList as EffectListDraft {
+    ghost holds = { λ d f n place ks. HoldsEffects (map effect-of (listed (d .effects))) f n place ks };
+
+    fn add<'a>(&mut self, file: &'a [u8], n: u16, part: Part<'a>) -> Result<(), Refusal> {
+        let Record::Effect(part) = Record::of(part) else {
+            return Err(part.refused(Fault::Kind));
+        };
+        let effect = read_effect(file, n, part, self.effects.as_slice())?;
+        self.effects.push(effect);
+        Ok(())
+    }
+}
+
+// Reads the effects of an outcome, from record `first` on.
+pub(crate) fn read_outcome(file: &[u8], n: u16, first: u16) -> Result<Outcome, Refusal>
+    requires { ⌜ (inside (now file) first ≡ true) × (n ≤ 32) ⌝ }
+    ensures { λ r. ⌜ Reads (now (file .entry)) n under-outcome first (λ o. OutcomeRead (now (file .entry)) n first (outcome-of o)) r ⌝ }
+{
+    let blank = Effect { conditions: Few::none(0), result: 0 };
+    let mut list = EffectList { effects: Few::none(blank) };
+    gather(&mut list, file, n, first)?;
+    Ok(Outcome { effects: list.effects })
 }
