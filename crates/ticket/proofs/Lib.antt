@@ -4,3 +4,4 @@ pub mod Records
 pub mod Scans
 pub mod Clashes
 pub mod Effects
+pub mod Actions

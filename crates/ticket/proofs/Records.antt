@@ -164,6 +164,7 @@ lawful-more n most list l lawful space within none =
 module _ (f : List ℕ) (n : ℕ) (place : Place) (earlier : List ℕ) (k most : ℕ) (list after : List Literal) where
   -- what holds of the longer list
   pub record Longer : Type 0 where
+    pub five : kind (part f k) ≡ 5
     pub same : after ≡ literals-among f (earlier ++ k ∷ [])
     pub lawful : lawful-list n most after ≡ true
 
@@ -180,6 +181,7 @@ module _ (f : List ℕ) (n : ℕ) (place : Place) (earlier : List ℕ) (k most :
       (
         bare-sound f n place earlier k 5 most _ _ e5 refl refl (h ∙ clean) p,
         on (record {
+          five = e5;
           same = items ∙ ap (λ l. l ++ value (part f k) ∷ []) same ∙ sym (gathers-more f earlier k 5 e5 (literal-at f) 5 refl);
           lawful = subst (λ l. lawful-list n most l ≡ true) (sym items) (lawful-more n most list (value (part f k)) lawful (leb-false most (length list) (p .space)) (p .value-fits) (p .unopposed));
         }),
@@ -255,3 +257,32 @@ no-room-sensing kd a b = grind (arith, tells)
 
 pub no-room-top : (kd : ℕ) → (kd ≡ 1 → ⊥) → (kd ≡ 2 → ⊥) → (kd ≡ 3 → ⊥) → (kd ≡ 4 → ⊥) → room at-top (group kd) ≡ 0
 no-room-top kd a b c d = grind (arith, tells)
+
+-- a record that passed leaves room for itself
+pub room-left : (n kd most standing k : ℕ) (r : List ℕ) (u : Unit {0}) → Ok u ≡ verdict k (fault-of n kd most standing false r) → standing < most
+room-left n kd most standing k r u v = leb-false most standing (passes n kd most standing false r (no-fault (fault-of n kd most standing false r) v) .space)
+  where
+    no-fault : (own : Option Fault) → Ok u ≡ verdict k own → own ≡ None
+    no-fault None e = refl
+    no-fault (Some x) e = absurd (ok-err e)
+
+-- the part q that a record is shown with is the part p that was handed out
+pub record Inner (f : List ℕ) (p q : Part) (kd : ℕ) : Type 0 where
+  pub same : q ≡ p
+  pub handed : Handed f (q .number) q
+  pub kind-there : kind (q .bytes .now) ≡ kd
+  pub kind-here : kind (part f (q .number)) ≡ kd
+
+pub inner : (f : List ℕ) (p : Part) (r : Record) → Handed f (p .number) p → r ≡ shown (kind (p .bytes .now)) p → 0 < tag r → Inner f p (held r) (tag r)
+inner f p r handed e some =
+    let same = held-is (kind (p .bytes .now)) p r e in
+    let own = subst (λ (x : Part). Handed f (x .number) x) (sym same) handed in
+    let there = ap (λ (x : Part). kind (x .bytes .now)) same ∙ kind-is (kind (p .bytes .now)) p r e some in
+    record { same = same; handed = own; kind-there = there; kind-here = ap kind (sym (own .bytes)) ∙ there }
+
+pub added-there : (f : List ℕ) (n : ℕ) (place : Place) (ks : List ℕ) (p q : Part) (is : List ℕ → Type 0) (r : Result (Unit {0}) Refusal) → q ≡ p → Added f n place ks (q .number) is r → Added f n place ks (p .number) is r
+added-there f n place ks p q is r e = subst (λ (x : Part). Added f n place ks (x .number) is r) e
+
+-- counting what was gathered so far
+pub counted : {X Y : Type 0} (f : List ℕ) (g : ℕ) (ks : List ℕ) (at : ℕ → Y) (of : X → Y) (xs : List X) → map of xs ≡ map at (among f g ks) → length (among f g ks) ≡ length xs
+counted f g ks at of xs same = sym (length-map (among f g ks) at) ∙ ap length (sym same) ∙ length-map xs of

@@ -1,21 +1,21 @@
 -- What each draft holds of the records that were added to it.
 use mathlib.Core.Path.{_≡_}
 use mathlib.Core.Bool.{true, false, cond}
-use mathlib.Core.List.{List, map}
+use mathlib.Core.List.{List, [], _∷_, _++_, map}
 use Prim.Native.Nat.{ℕ, _<_}
-use lib.Dec.{eqb}
+use lib.Dec.{eqb, leb}
 use Rattle.worlds.specs.Worlds.{Literal}
 use lib.ListN.{length}
 use Rattle.std.specs.declared.option.Option.the-variants.{Some, None}
 use Rattle.std.specs.declared.result.Result.{Result}
 use Rattle.std.specs.declared.result.Result.the-variants.{Ok, Err}
 use Rattle.worlds.specs.Steps.{Effect, Outcome, Step}
-use Rattle.worlds.specs.Tickets.{lawful-list, lawful-effect, lawful-outcome, clashes}
+use Rattle.worlds.specs.Tickets.{lawful-list, lawful-effect, lawful-outcome, clashes, every}
 use Rattle.worlds.specs.Meaning.{effect-of}
 use Rattle.worlds.specs.declared.step.Effect as code-effect
 use Rattle.ticket.specs.declared.refusal.Refusal.{Refusal}
-use Rattle.ticket.specs.Content.{chain, among, literals-among, literals-from, effect-at}
-use Rattle.ticket.specs.Judging.{Place, room, under-outcome, Judged}
+use Rattle.ticket.specs.Content.{chain, among, literals-among, literals-from, effect-at, outcome-at}
+use Rattle.ticket.specs.Judging.{Place, room, under-outcome, under-action, Judged}
 use Rattle.ticket.specs.Drafts.{Sound}
 
 -- a chain at a place that takes up to so many literals and nothing else: the list has the literals of its records
@@ -52,3 +52,25 @@ ReadsEffect f n ks k earlier (Err r) = (above : ℕ) → Judged f n under-outcom
 pub record OutcomeRead (f : List ℕ) (n k : ℕ) (o : Outcome) : Type 0 where
   pub same : o ≡ map (effect-at f) (among f 7 (chain f k))
   pub lawful : lawful-outcome n o ≡ true
+
+-- the chain under an action: the precondition has its literals, the outcomes are those of its records of kind 6
+pub record HoldsAction (precondition : List Literal) (outcomes : List Outcome) (f : List ℕ) (n : ℕ) (place : Place) (ks : List ℕ) : Type 0 where
+  pub where-it-is : place ≡ under-action
+  pub literals : precondition ≡ literals-among f ks
+  pub lawful : lawful-list n 32 precondition ≡ true
+  pub same : outcomes ≡ map (outcome-at f) (among f 6 ks)
+  pub each : every (lawful-outcome n) outcomes ≡ true
+  pub few : leb (length outcomes) 4 ≡ true
+
+-- what adding the outcome of record k answers, after the records ks
+pub record OutcomeAdded (f : List ℕ) (n : ℕ) (ks : List ℕ) (k : ℕ) (was is : List Outcome) : Type 0 where
+  pub sound : Sound f n under-action ks k
+  pub last : Outcome
+  pub longer : is ≡ was ++ last ∷ []
+  pub same : last ≡ outcome-at f k
+  pub lawful : lawful-outcome n last ≡ true
+  pub room-left : length was < 4
+
+abbrev pub AddsOutcome : List ℕ → ℕ → List ℕ → ℕ → List Outcome → List Outcome → Result (Unit {0}) Refusal → Type 0
+AddsOutcome f n ks k was is (Ok u) = OutcomeAdded f n ks k was is
+AddsOutcome f n ks k was is (Err r) = (above : ℕ) → Judged f n under-action above ks k (Some r)

@@ -7,5 +7,6 @@ mod draft;
 mod opposites;
 mod rules;
 mod effect_list;
+mod action_draft;
 mod literals;
 mod literal_list;
