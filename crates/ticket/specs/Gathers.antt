@@ -4,18 +4,18 @@ use mathlib.Core.Bool.{true, false, cond}
 use mathlib.Core.List.{List, [], _∷_, _++_, map}
 use Prim.Native.Nat.{ℕ, _<_}
 use lib.Dec.{eqb, leb}
-use Rattle.worlds.specs.Worlds.{Literal}
+use Rattle.worlds.specs.Worlds.{Literal, speaks-within}
 use lib.ListN.{length}
 use Rattle.std.specs.declared.option.Option.the-variants.{Some, None}
 use Rattle.std.specs.declared.result.Result.{Result}
 use Rattle.std.specs.declared.result.Result.the-variants.{Ok, Err}
 use Rattle.worlds.specs.Steps.{Effect, Outcome, Step}
-use Rattle.worlds.specs.Tickets.{lawful-list, lawful-effect, lawful-outcome, clashes, every}
+use Rattle.worlds.specs.Tickets.{lawful-list, lawful-effect, lawful-outcome, lawful-step, clashes, every}
 use Rattle.worlds.specs.Meaning.{effect-of}
 use Rattle.worlds.specs.declared.step.Effect as code-effect
 use Rattle.ticket.specs.declared.refusal.Refusal.{Refusal}
-use Rattle.ticket.specs.Content.{chain, among, literals-among, literals-from, effect-at, outcome-at}
-use Rattle.ticket.specs.Judging.{Place, room, under-outcome, under-action, Judged}
+use Rattle.ticket.specs.Content.{chain, among, literals-among, literals-from, effect-at, outcome-at, literal-at}
+use Rattle.ticket.specs.Judging.{Place, room, under-outcome, under-action, under-sensing, Judged}
 use Rattle.ticket.specs.Drafts.{Sound}
 
 -- a chain at a place that takes up to so many literals and nothing else: the list has the literals of its records
@@ -74,3 +74,22 @@ pub record OutcomeAdded (f : List ℕ) (n : ℕ) (ks : List ℕ) (k : ℕ) (was 
 abbrev pub AddsOutcome : List ℕ → ℕ → List ℕ → ℕ → List Outcome → List Outcome → Result (Unit {0}) Refusal → Type 0
 AddsOutcome f n ks k was is (Ok u) = OutcomeAdded f n ks k was is
 AddsOutcome f n ks k was is (Err r) = (above : ℕ) → Judged f n under-action above ks k (Some r)
+
+-- what reading the chain from record k into a value answers, with its end, at a place under the record `above`: the value
+-- is what the chain holds, as `is` says, and there is no fault, or the first fault
+abbrev pub ReadsWhole : {X : Type 0} → List ℕ → ℕ → Place → ℕ → ℕ → (X → Type 0) → Result X Refusal → Type 0
+ReadsWhole f n place above k is (Ok x) = is x × Judged f n place above [] k None
+ReadsWhole f n place above k is (Err r) = Judged f n place above [] k (Some r)
+
+-- a step that was read is the one that its chain holds
+pub record StepRead (n : ℕ) (held s : Step) : Type 0 where
+  pub same : s ≡ held
+  pub lawful : lawful-step n s ≡ true
+
+-- the chain under a sensing step: the precondition has its literals; the sensed literal is that of its record of kind 8
+pub record HoldsSensing (precondition sensed : List Literal) (f : List ℕ) (n : ℕ) (place : Place) (ks : List ℕ) : Type 0 where
+  pub where-it-is : place ≡ under-sensing
+  pub literals : precondition ≡ literals-among f ks
+  pub lawful : lawful-list n 32 precondition ≡ true
+  pub same : sensed ≡ map (literal-at f) (among f 8 ks)
+  pub within : every (speaks-within n) sensed ≡ true

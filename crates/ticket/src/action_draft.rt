@@ -3,12 +3,14 @@ ghost use mathlib.Core.Path.{_≡_};
 ghost use mathlib.Core.Bool.{true};
 ghost use mathlib.Core.List.{List, map};
 ghost use Prim.Native.Nat.{ℕ, _≤_};
-ghost use Rattle.worlds.specs.Meaning.{listed, outcome-of};
+ghost use Rattle.worlds.specs.Meaning.{listed, outcome-of, step-of};
 ghost use Rattle.ticket.specs.Layout.{inside, below, kind};
-ghost use Rattle.ticket.specs.Content.{among, outcome-at};
+ghost use Rattle.ticket.specs.Content.{chain, among, outcome-at, action-from};
 ghost use Rattle.ticket.specs.Chains.{Handed};
-ghost use Rattle.ticket.specs.Gathers.{HoldsAction, AddsOutcome};
+ghost use Rattle.ticket.specs.Judging.{under-action};
+ghost use Rattle.ticket.specs.Gathers.{HoldsAction, AddsOutcome, ReadsWhole, StepRead};
 use crate::draft::Draft;
+use crate::draft::gather;
 use crate::effect_list::read_outcome;
 use crate::kinds::Record;
 use crate::literals::push_literal;
@@ -16,7 +18,10 @@ use crate::part::Part;
 use crate::refusal::Fault;
 use crate::refusal::Refusal;
 use worlds::few::Few;
+use worlds::step::Action;
+use worlds::step::Effect;
 use worlds::step::Outcome;
+use worlds::step::Step;
 use worlds::step::Term;
 
 #[derive(Copy)]
@@ -46,4 +51,21 @@ pub(crate) impl Draft for ActionDraft as ActionDraftDraft {
             _ => Err(part.refused(Fault::Kind)),
         }
     }
+}
+
+// Reads the action of record `number`, whose chain starts at record `first`.
+pub(crate) fn read_action(file: &[u8], n: u16, class: u8, number: u16, first: u16) -> Result<Step, Refusal>
+    requires { ⌜ (inside (now file) first ≡ true) × (n ≤ 32) ⌝ }
+    ensures { λ r. ⌜ ReadsWhole (now (file .entry)) n under-action number first (λ s. StepRead n (action-from (now (file .entry)) class (chain (now (file .entry)) first)) (step-of s)) r ⌝ }
+{
+    let blank = Effect { conditions: Few::none(0), result: 0 };
+    let mut draft = ActionDraft {
+        precondition: Few::none(0),
+        outcomes: Few::none(Outcome { effects: Few::none(blank) }),
+    };
+    gather(&mut draft, file, n, first)?;
+    if draft.outcomes.len() == 0 {
+        return Err(Refusal { fault: Fault::Missing, record: number });
+    }
+    Ok(Step::Action(Action { class, precondition: draft.precondition, outcomes: draft.outcomes }))
 }

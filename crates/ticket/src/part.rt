@@ -1,5 +1,8 @@
 // One record of a ticket file: its number and the eight bytes that it covers.
 ghost use mathlib.Core.Path.{_≡_};
+ghost use mathlib.Core.Bool.{true};
+ghost use lib.IntN.{natAbs};
+ghost use Rattle.ticket.specs.Judging.{class-good};
 ghost use Rattle.ticket.specs.Layout.{kind, value, below, next};
 use crate::refusal::Fault;
 use crate::refusal::Refusal;
@@ -23,6 +26,13 @@ impl Part<'_> {
     {
         let b = self.bytes;
         i16::from_le_bytes([b[2], b[3]])
+    }
+
+    // The class of a step: its value, which has only a low byte where it is 0 to 255.
+    pub(crate) fn class(&self) -> u8
+        ensures { λ r. ⌜ (class-good (value (now (now (self .entry) .bytes))) ≡ true → r ≡ natAbs (value (now (now (self .entry) .bytes)))) ⌝ }
+    {
+        self.bytes[2]
     }
 
     pub(crate) fn below(&self) -> u16
