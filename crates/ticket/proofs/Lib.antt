@@ -5,3 +5,4 @@ pub mod Scans
 pub mod Clashes
 pub mod Effects
 pub mod Actions
+pub mod Sensings

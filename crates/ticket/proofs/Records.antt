@@ -286,3 +286,8 @@ added-there f n place ks p q is r e = subst (λ (x : Part). Added f n place ks (
 -- counting what was gathered so far
 pub counted : {X Y : Type 0} (f : List ℕ) (g : ℕ) (ks : List ℕ) (at : ℕ → Y) (of : X → Y) (xs : List X) → map of xs ≡ map at (among f g ks) → length (among f g ks) ≡ length xs
 counted f g ks at of xs same = sym (length-map (among f g ks) at) ∙ ap length (sym same) ∙ length-map xs of
+
+-- a list without elements
+pub nil-from-length : {X : Type 0} (xs : List X) → length xs < 1 → xs ≡ []
+nil-from-length [] h = refl
+nil-from-length (x ∷ xs) h = absurd (omega arith)

@@ -93,3 +93,14 @@ pub record HoldsSensing (precondition sensed : List Literal) (f : List ℕ) (n :
   pub lawful : lawful-list n 32 precondition ≡ true
   pub same : sensed ≡ map (literal-at f) (among f 8 ks)
   pub within : every (speaks-within n) sensed ≡ true
+
+-- what taking the sensed literal of record k answers, after the records ks: it is the only one
+pub record SensedAdded (f : List ℕ) (n : ℕ) (ks : List ℕ) (k : ℕ) (is : List Literal) : Type 0 where
+  pub sound : Sound f n under-sensing ks k
+  pub only : is ≡ literal-at f k ∷ []
+  pub first : among f 8 ks ≡ []
+  pub within : speaks-within n (literal-at f k) ≡ true
+
+abbrev pub AddsSensed : List ℕ → ℕ → List ℕ → ℕ → List Literal → Result (Unit {0}) Refusal → Type 0
+AddsSensed f n ks k is (Ok u) = SensedAdded f n ks k is
+AddsSensed f n ks k is (Err r) = (above : ℕ) → Judged f n under-sensing above ks k (Some r)
