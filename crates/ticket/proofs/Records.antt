@@ -30,7 +30,7 @@ use Rattle.ticket.specs.Kinds.{shown}
 use Rattle.ticket.specs.Layout.{kind, value, below, part, links-good, group}
 use Rattle.ticket.specs.Content.{among, literals-among, literal-at}
 use Rattle.ticket.specs.Chains.{Handed}
-use Rattle.ticket.specs.Judging.{Place, room, under, bare, value-good, fault-of, opposed, fault-as, record-fault, Judged, ended, faulty, faulty-below, under-literal, under-outcome, under-action, under-sensing, at-top}
+use Rattle.ticket.specs.Judging.{Place, room, under, bare, class-good, value-good, fault-of, opposed, fault-as, record-fault, Judged, ended, faulty, faulty-below, under-literal, under-outcome, under-action, under-sensing, at-top}
 use Rattle.ticket.specs.Drafts.{Sound, Added, verdict}
 
 -- the kind that a record is shown as (0: unknown), and its part
@@ -291,3 +291,14 @@ counted f g ks at of xs same = sym (length-map (among f g ks) at) ∙ ap length 
 pub nil-from-length : {X : Type 0} (xs : List X) → length xs < 1 → xs ≡ []
 nil-from-length [] h = refl
 nil-from-length (x ∷ xs) h = absurd (omega arith)
+
+-- a step is an action or a sensing step
+pub step-group : (kd : ℕ) → eqb (group kd) 3 ≡ true → (group kd ≡ 3) × (eqb kd 5 ≡ false)
+step-group kd h = (eqb-true (group kd) 3 h, grind (arith, tells))
+
+-- the value of a step that passed is a class
+pub step-class : (n kd most standing : ℕ) (over : Bool) (r : List ℕ) → eqb (group kd) 3 ≡ true → Passes n kd most standing over r → class-good (value r) ≡ true
+step-class n kd most standing over r h p = step-value n kd (value r) h (p .value-fits)
+  where
+    step-value : (n kd : ℕ) (v : ℤ) → eqb (group kd) 3 ≡ true → value-good n kd v ≡ true → class-good v ≡ true
+    step-value n kd v h e = grind (arith, tells)

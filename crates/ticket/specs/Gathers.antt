@@ -1,6 +1,6 @@
 -- What each draft holds of the records that were added to it.
 use mathlib.Core.Path.{_≡_}
-use mathlib.Core.Bool.{true, false, cond}
+use mathlib.Core.Bool.{Bool, true, false, cond}
 use mathlib.Core.List.{List, [], _∷_, _++_, map}
 use Prim.Native.Nat.{ℕ, _<_}
 use lib.Dec.{eqb, leb}
@@ -14,8 +14,8 @@ use Rattle.worlds.specs.Tickets.{lawful-list, lawful-effect, lawful-outcome, la
 use Rattle.worlds.specs.Meaning.{effect-of}
 use Rattle.worlds.specs.declared.step.Effect as code-effect
 use Rattle.ticket.specs.declared.refusal.Refusal.{Refusal}
-use Rattle.ticket.specs.Content.{chain, among, literals-among, literals-from, effect-at, outcome-at, literal-at}
-use Rattle.ticket.specs.Judging.{Place, room, under-outcome, under-action, under-sensing, Judged}
+use Rattle.ticket.specs.Content.{chain, among, literals-among, literals-from, effect-at, outcome-at, literal-at, list-at, step-at}
+use Rattle.ticket.specs.Judging.{Place, room, under-outcome, under-action, under-sensing, at-top, Judged}
 use Rattle.ticket.specs.Drafts.{Sound}
 
 -- a chain at a place that takes up to so many literals and nothing else: the list has the literals of its records
@@ -104,3 +104,27 @@ pub record SensedAdded (f : List ℕ) (n : ℕ) (ks : List ℕ) (k : ℕ) (is : 
 abbrev pub AddsSensed : List ℕ → ℕ → List ℕ → ℕ → List Literal → Result (Unit {0}) Refusal → Type 0
 AddsSensed f n ks k is (Ok u) = SensedAdded f n ks k is
 AddsSensed f n ks k is (Err r) = (above : ℕ) → Judged f n under-sensing above ks k (Some r)
+
+-- the top chain: terms (kind 1), the aim (kind 2) and steps (kinds 3 and 4) of its records
+pub record HoldsTop (terms aims : List (List Literal)) (steps : List Step) (f : List ℕ) (n : ℕ) (place : Place) (ks : List ℕ) : Type 0 where
+  pub where-it-is : place ≡ at-top
+  pub terms-same : terms ≡ map (list-at f) (among f 1 ks)
+  pub terms-few : leb (length terms) 256 ≡ true
+  pub terms-lawful : every (lawful-list n 32) terms ≡ true
+  pub aims-same : aims ≡ map (list-at f) (among f 2 ks)
+  pub aims-lawful : every (lawful-list n 32) aims ≡ true
+  pub steps-same : steps ≡ map (step-at f) (among f 3 ks)
+  pub steps-few : leb (length steps) 32 ≡ true
+  pub steps-lawful : every (lawful-step n) steps ≡ true
+
+-- what adding one of the top chain's records answers, after the records ks: `was` becomes `is` by what the record holds,
+-- which passes the test `law`; there is room for it
+pub record TopAdded {X : Type 0} (f : List ℕ) (n : ℕ) (ks : List ℕ) (k : ℕ) (held : X) (law : X → Bool) (most : ℕ) (was is : List X) : Type 0 where
+  pub sound : Sound f n at-top ks k
+  pub longer : is ≡ was ++ held ∷ []
+  pub lawful : law held ≡ true
+  pub room-left : length was < most
+
+abbrev pub AddsTop : {X : Type 0} → List ℕ → ℕ → List ℕ → ℕ → X → (X → Bool) → ℕ → List X → List X → Result (Unit {0}) Refusal → Type 0
+AddsTop f n ks k held law most was is (Ok u) = TopAdded f n ks k held law most was is
+AddsTop f n ks k held law most was is (Err r) = (above : ℕ) → Judged f n at-top above ks k (Some r)

@@ -10,5 +10,6 @@ mod standing;
 mod effect_list;
 mod action_draft;
 mod sensing_draft;
+mod top;
 mod literals;
 mod literal_list;
