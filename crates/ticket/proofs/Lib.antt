@@ -6,3 +6,4 @@ pub mod Clashes
 pub mod Effects
 pub mod Actions
 pub mod Sensings
+pub mod Tops

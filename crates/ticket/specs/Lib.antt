@@ -8,5 +8,6 @@ pub mod Judging
 pub mod Drafts
 pub mod Conflicts
 pub mod Gathers
+pub mod Meaning
 pub mod Answers
 pub mod OneAnswer

@@ -11,5 +11,6 @@ mod effect_list;
 mod action_draft;
 mod sensing_draft;
 mod top;
+mod contents;
 mod literals;
 mod literal_list;
