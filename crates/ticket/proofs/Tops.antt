@@ -17,7 +17,8 @@ use Rattle.worlds.proofs.Compatible.{every-snoc}
 use Rattle.ticket.specs.declared.refusal.Refusal.{Refusal}
 use Rattle.ticket.specs.Layout.{kind, part, group}
 use Rattle.ticket.specs.Content.{among, list-at, step-at}
-use Rattle.ticket.specs.Judging.{Place, Judged, at-top}
+use Rattle.ticket.specs.Judging.{Place, Judged, at-top, end-fault}
+use Rattle.ticket.specs.declared.refusal.Fault.the-variants.{Missing}
 use Rattle.ticket.specs.Drafts.{Added, Sound}
 use Rattle.ticket.specs.Gathers.{HoldsTop, AddsTop, TopAdded}
 use Rattle.ticket.proofs.Records.{gathers-more, gathers-same}
@@ -94,3 +95,24 @@ module _ (f : List ℕ) (n : ℕ) (place : Place) (ks : List ℕ) (k : ℕ) (ter
           steps-lawful = longer-lawful f n ks k _ refl 3 e (step-at f) _ _ _ _ a (h .steps-lawful);
         },
       )
+
+pub holds-none : (f : List ℕ) (n : ℕ) (terms aims : List (List Literal)) (steps : List Step) → terms ≡ [] → aims ≡ [] → steps ≡ [] → HoldsTop terms aims steps f n at-top []
+holds-none f n terms aims steps a b c =
+    record {
+      where-it-is = refl;
+      terms-same = a;
+      terms-few = ap (λ l. leb (length l) 256) a;
+      terms-lawful = ap (every (lawful-list n 32)) a;
+      aims-same = b;
+      aims-lawful = ap (every (lawful-list n 32)) b;
+      steps-same = c;
+      steps-few = ap (λ l. leb (length l) 32) c;
+      steps-lawful = ap (every (lawful-step n)) c;
+    }
+
+-- at the end of the chain
+pub top-ends : (f : List ℕ) (n : ℕ) (ks : List ℕ) (terms aims : List (List Literal)) (steps : List Step) → HoldsTop terms aims steps f n at-top ks → (b : Bool) → (eqb (length terms) 0 || eqb (length aims) 0) ≡ b → end-fault f n at-top 0 ks ≡ cond b (Some Missing) None
+top-ends f n ks terms aims steps h b e =
+    let terms-many = sym (length-map (among f 1 ks) (list-at f)) ∙ ap length (sym (h .terms-same)) in
+    let aims-many = sym (length-map (among f 2 ks) (list-at f)) ∙ ap length (sym (h .aims-same)) in
+    (λ i. cond (eqb (terms-many i) 0 || eqb (aims-many i) 0) (Some Missing) None) ∙ ap (λ c. cond c (Some Missing) None) e

@@ -9,6 +9,9 @@ use lib.ListN.{length, take}
 use Rattle.std.specs.declared.option.Option.{Option}
 use Rattle.std.specs.declared.option.Option.the-variants.{Some, None}
 use Rattle.worlds.specs.Tickets.{Ticket}
+use Rattle.std.specs.declared.result.Result.{Result}
+use Rattle.std.specs.declared.result.Result.the-variants.{Ok, Err}
+use Rattle.ticket.specs.declared.head.Head.{Head}
 use Rattle.ticket.specs.declared.refusal.Refusal.{Refusal}
 use Rattle.ticket.specs.declared.refusal.Fault.{Fault}
 use Rattle.ticket.specs.declared.refusal.Fault.the-variants.{Length, Mark, Conditions, Link}
@@ -44,3 +47,8 @@ pub record Holds (f : List ℕ) (t : Ticket) : Type 0 where
 -- the file is refused: record 0 is at fault, or a record of its chains is and nothing judged before it
 abbrev pub Refused : List ℕ → Refusal → Type 0
 Refused f r = (at-record 0 (head-fault f) ≡ Some r) ⊎ ((head-fault f ≡ None) × Judged f (conditions f) at-top 0 [] (top f) (Some r))
+
+-- what reading record 0 answers: its two words, or its first fault
+abbrev pub ReadsHead : List ℕ → Result Head Refusal → Type 0
+ReadsHead f (Ok h) = (head-fault f ≡ None) × (h .conditions ≡ conditions f) × (h .top ≡ top f)
+ReadsHead f (Err r) = at-record 0 (head-fault f) ≡ Some r

@@ -128,3 +128,14 @@ pub record TopAdded {X : Type 0} (f : List ℕ) (n : ℕ) (ks : List ℕ) (k : �
 abbrev pub AddsTop : {X : Type 0} → List ℕ → ℕ → List ℕ → ℕ → X → (X → Bool) → ℕ → List X → List X → Result (Unit {0}) Refusal → Type 0
 AddsTop f n ks k held law most was is (Ok u) = TopAdded f n ks k held law most was is
 AddsTop f n ks k held law most was is (Err r) = (above : ℕ) → Judged f n at-top above ks k (Some r)
+
+-- what filling the contents from the top chain, which starts at record k, answers
+pub record Filled (f : List ℕ) (n k : ℕ) (terms aims : List (List Literal)) (steps : List Step) : Type 0 where
+  pub holds : HoldsTop terms aims steps f n at-top (chain f k)
+  pub some-term : 0 < length terms
+  pub some-aim : 0 < length aims
+  pub faultless : Judged f n at-top 0 [] k None
+
+abbrev pub Fills : List ℕ → ℕ → ℕ → List (List Literal) → List (List Literal) → List Step → Result (Unit {0}) Refusal → Type 0
+Fills f n k terms aims steps (Ok u) = Filled f n k terms aims steps
+Fills f n k terms aims steps (Err r) = Judged f n at-top 0 [] k (Some r)

@@ -12,5 +12,6 @@ mod action_draft;
 mod sensing_draft;
 mod top;
 mod contents;
+mod head;
 mod literals;
 mod literal_list;

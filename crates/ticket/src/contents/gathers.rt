@@ -1,13 +1,14 @@
 ghost use mathlib.Core.Path.{_≡_};
-ghost use mathlib.Core.Bool.{true};
+ghost use mathlib.Core.Bool.{true, _||_};
 ghost use mathlib.Core.List.{[], map};
 ghost use Prim.Native.Nat.{_≤_};
-ghost use Rattle.std.specs.Of.Vec.{vec-items};
+ghost use lib.Dec.{eqb};
+ghost use lib.ListN.{length};
+ghost use Rattle.std.specs.Of.Vec.{vec-len};
 ghost use Rattle.std.specs.Vec.{listOf, made};
 ghost use Rattle.worlds.specs.Meaning.{listed, step-of};
 ghost use Rattle.ticket.specs.Layout.{inside};
-ghost use Rattle.ticket.specs.Judging.{at-top};
-ghost use Rattle.ticket.specs.Gathers.{HoldsTop, ReadsWhole};
+ghost use Rattle.ticket.specs.Gathers.{HoldsTop, Fills};
 ghost use Rattle.ticket.specs.Meaning.{terms-of, aims-of, steps-of};
 use crate::contents::Contents;
 use crate::draft::Draft;
@@ -16,6 +17,7 @@ use crate::kinds::Record;
 use crate::part::Part;
 use crate::refusal::Fault;
 use crate::refusal::Refusal;
+use crate::standing::standing;
 use crate::top::add_aim;
 use crate::top::add_step;
 use crate::top::add_term;
@@ -52,5 +54,25 @@ impl Contents {
         self.terms.clear();
         self.aim = None;
         self.steps.clear();
+    }
+
+    // Whether there is no term or no aim yet.
+    fn is_incomplete(&self) -> bool
+        ensures { λ r. ⌜ r ≡ (eqb (vec-len (now (self .entry) .terms)) 0 || eqb (length (listOf (now (self .entry) .aim))) 0) ⌝ }
+    {
+        self.terms.len() == 0 || standing(&self.aim) == 0
+    }
+
+    // Fills the contents anew from the top chain, which starts at record `first`.
+    pub(crate) fn fill(&mut self, file: &[u8], n: u16, first: u16) -> Result<(), Refusal>
+        requires { ⌜ (inside (now file) first ≡ true) × (n ≤ 32) ⌝ }
+        ensures { λ r. ⌜ Fills (now (file .entry)) n first (terms-of (now (self .exit))) (aims-of (now (self .exit))) (steps-of (now (self .exit))) r ⌝ }
+    {
+        self.clear();
+        gather(self, file, n, first)?;
+        if self.is_incomplete() {
+            return Err(Refusal { fault: Fault::Missing, record: 0 });
+        }
+        Ok(())
     }
 }
