@@ -7,3 +7,4 @@ pub mod Effects
 pub mod Actions
 pub mod Sensings
 pub mod Tops
+pub mod WholeFile

@@ -10,4 +10,5 @@ pub mod Conflicts
 pub mod Gathers
 pub mod Meaning
 pub mod Answers
+pub mod Tickets
 pub mod OneAnswer

@@ -1,5 +1,6 @@
 pub mod laws;
 pub mod refusal;
+pub mod ticket;
 mod part;
 mod kinds;
 mod chain_reader;

@@ -1,6 +1,6 @@
 ghost use mathlib.Core.Path.{_≡_};
 ghost use mathlib.Core.Bool.{true, _||_};
-ghost use mathlib.Core.List.{[], map};
+ghost use mathlib.Core.List.{[], _∷_};
 ghost use Prim.Native.Nat.{_≤_};
 ghost use lib.Dec.{eqb};
 ghost use lib.ListN.{length};
@@ -23,6 +23,8 @@ use crate::top::add_step;
 use crate::top::add_term;
 use std::alloc::AllocError;
 use std::alloc::Global;
+use worlds::few::Few;
+use worlds::step::Term;
 
 pub(crate) impl Draft for Contents as ContentsDraft {
     ghost holds = { λ d f n place ks. HoldsTop (terms-of d) (aims-of d) (steps-of d) f n place ks };
@@ -39,13 +41,15 @@ pub(crate) impl Draft for Contents as ContentsDraft {
 }
 
 impl Contents {
-    // Contents without anything, and with room for all that a ticket may have.
+    // One term and an aim without literals and no steps, with room for all that a ticket may have.
     pub(crate) fn new(heap: Global) -> Result<Contents, AllocError>
-        ensures { λ r. ⌜ made r (λ d. (terms-of d ≡ []) × (aims-of d ≡ []) × (steps-of d ≡ [])) ⌝ }
+        ensures { λ r. ⌜ made r (λ d. (terms-of d ≡ [] ∷ []) × (aims-of d ≡ [] ∷ []) × (steps-of d ≡ [])) ⌝ }
     {
-        let terms = Vec::with_capacity(heap, 256)?;
+        let mut terms = Vec::with_capacity(heap, 256)?;
         let steps = Vec::with_capacity(heap, 32)?;
-        Ok(Contents { terms, aim: None, steps })
+        let list: Term = Few::none(0);
+        terms.push_reserved(list);
+        Ok(Contents { terms, aim: Some(list), steps })
     }
 
     pub(crate) fn clear(&mut self)

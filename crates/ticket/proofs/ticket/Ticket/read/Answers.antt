@@ -1,0 +1,33 @@
+use mathlib.Core.Path.{_≡_, refl, sym, ap, subst, _∙_}
+use mathlib.Core.Bool.{true}
+use Prim.Native.Nat.{_≤_}
+use Rattle.worlds.specs.Tickets.{lawful}
+use Rattle.ticket.specs.Layout.{inside}
+use Rattle.ticket.specs.Answers.{Holds}
+use Rattle.ticket.specs.Meaning.{ticket-with}
+use Rattle.ticket.proofs.WholeFile.{head-good, read-lawful, read-holds}
+use Rattle.ticket.proofs.ticket.Ticket.read.Needs as need
+
+pub fill-requires : need.fill-requires
+fill-requires c κs =
+    let head = c .in-Continue-head .ensures tt in
+    let good = head-good (c .args .file .now) (head .0) in
+    (
+      subst (λ k. inside (c .args .file .now) k ≡ true) (sym (head .2)) (good .top-inside),
+      subst (λ n. n ≤ 32) (sym (head .1)) (good .few-conditions),
+    )
+
+pub ghost-self-2 : need.ghost-self-2
+ghost-self-2 c =
+    let head = c .in-Continue-head .ensures tt in
+    let n = c .in-Continue-head .head .conditions in
+    (
+      subst (λ d. lawful (ticket-with n d) ≡ true) (sym (c .swap .ensures .x-after)) (read-lawful _ _ _ _ _ _ (head .0) (head .1) (head .2) (c .in-Continue-fill .ensures tt)),
+      tt,
+    )
+
+pub returns : need.returns
+returns c =
+    let head = c .in-Continue-head .ensures tt in
+    let n = c .in-Continue-head .head .conditions in
+    subst (λ d. Holds (c .args .file .now) (ticket-with n d)) (sym (c .swap .ensures .x-after)) (read-holds _ _ _ _ _ _ (head .0) (head .1) (head .2) (c .in-Continue-fill .ensures tt))
