@@ -6,12 +6,12 @@ use Prim.Native.Nat.{ℕ, _<_, _≤_, _%_}
 use native.Mathlib.Omega.{arith}
 use lib.Dec.{eqb, leb, ltb}
 use lib.ListN.{length, take}
-use Rattle.std.proofs.shelf.Tests.{and-from, and-parts, lt-ltb, le-leb}
+use Rattle.std.proofs.shelf.Tests.{and-from, and-parts, lt-ltb, le-leb, leb-true}
 use Rattle.std.proofs.shelf.Ways.{tells}
 use Rattle.std.specs.declared.option.Option.the-variants.{Some, None}
 use Rattle.worlds.specs.Worlds.{Literal}
 use Rattle.worlds.specs.Steps.{Step}
-use Rattle.worlds.specs.Tickets.{Ticket, every, lawful-list, lawful}
+use Rattle.worlds.specs.Tickets.{Ticket, every, lawful-list, lawful-step, lawful}
 use Rattle.ticket.specs.Layout.{conditions, top, inside}
 use Rattle.ticket.specs.Content.{chain, ticket-in, ticket-from, first-list}
 use Rattle.ticket.specs.Judging.{Judged, at-top}
@@ -61,3 +61,13 @@ module _ (f : List ℕ) (n k : ℕ) (terms aims : List (List Literal)) (steps : 
         };
         content = read-content;
       }
+
+-- a lawful ticket has room in the contents of any other
+pub lawful-sizes : (t : Ticket) → lawful t ≡ true → (length (t .terms) ≤ 256) × (length (t .steps) ≤ 32)
+lawful-sizes t h =
+    let n = t .conditions in
+    let a = and-parts (ltb 0 n && leb n 32) _ h .1 in
+    let b = and-parts (ltb 0 (length (t .terms)) && (leb (length (t .terms)) 256 && every (lawful-list n 32) (t .terms))) _ a in
+    let terms = and-parts (leb (length (t .terms)) 256) (every (lawful-list n 32) (t .terms)) (and-parts (ltb 0 (length (t .terms))) _ (b .0) .1) .0 in
+    let steps = and-parts (leb (length (t .steps)) 32) (every (lawful-step n) (t .steps)) (and-parts (lawful-list n 32 (t .aim)) _ (b .1) .1) .0 in
+    (leb-true _ 256 terms, leb-true _ 32 steps)

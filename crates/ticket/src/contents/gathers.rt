@@ -60,6 +60,18 @@ impl Contents {
         self.steps.clear();
     }
 
+    // Makes these contents those of another, for which there is room.
+    pub(crate) fn copy_from(&mut self, other: &Contents)
+        requires { ⌜ (vec-len (now other .terms) ≤ 256) × (vec-len (now other .steps) ≤ 32) ⌝ }
+        ensures { λ _. ⌜ (terms-of (now (self .exit)) ≡ terms-of (now (other .entry))) × (aims-of (now (self .exit)) ≡ aims-of (now (other .entry))) × (steps-of (now (self .exit)) ≡ steps-of (now (other .entry))) ⌝ }
+    {
+        self.terms.clear();
+        let _ = self.terms.extend_from_slice(other.terms.as_slice());
+        self.aim = other.aim;
+        self.steps.clear();
+        let _ = self.steps.extend_from_slice(other.steps.as_slice());
+    }
+
     // Whether there is no term or no aim yet.
     fn is_incomplete(&self) -> bool
         ensures { λ r. ⌜ r ≡ (eqb (vec-len (now (self .entry) .terms)) 0 || eqb (length (listOf (now (self .entry) .aim))) 0) ⌝ }

@@ -34,6 +34,14 @@ impl Ticket {
         Ok(())
     }
 
+    // Makes this ticket the same as another. It needs no memory beyond what it has.
+    pub fn copy_from(&mut self, other: &Ticket)
+        ensures { λ _. ⌜ ticket-of (now (self .exit)) ≡ ticket-of (now (other .entry)) ⌝ }
+    {
+        self.kept.copy_from(&other.kept);
+        self.conditions = other.conditions;
+    }
+
     pub fn conditions(&self) -> u16
         ensures { λ r. ⌜ r ≡ ticket-of (now (self .entry)) .conditions ⌝ }
     {
