@@ -1,0 +1,2 @@
+-- A ticket in words.
+pub mod Words
