@@ -27,8 +27,7 @@ pub outcome-added : (f : List ℕ) (n : ℕ) (place : Place) (ks : List ℕ) (k 
 outcome-added f n place ks k precondition was is (Err r) h six a = λ above. subst (λ q. Judged f n q above ks k (Some r)) (sym (h .where-it-is)) (a above)
 outcome-added f n place ks k precondition was is (Ok u) h six a =
     let ends = ap (λ o. o ∷ []) (a .same) in
-    let few = a .room-left in
-    (
+    let few = a .room-left in (
       subst (λ q. Sound f n q ks k) (sym (h .where-it-is)) (a .sound),
       record {
         where-it-is = h .where-it-is;

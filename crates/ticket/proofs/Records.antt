@@ -177,8 +177,7 @@ module _ (f : List ℕ) (n : ℕ) (place : Place) (earlier : List ℕ) (k most :
   literal-answer is (Ok u) some links e5 space same lawful answer items on =
       let h = literal-fault f n place earlier k most list links e5 space same in
       let clean = itself-sound f n place earlier k own h u answer in
-      let p = passes n 5 most (length list) _ (part f k) clean in
-      (
+      let p = passes n 5 most (length list) _ (part f k) clean in (
         bare-sound f n place earlier k 5 most _ _ e5 refl refl (h ∙ clean) p,
         on (record {
           five = e5;

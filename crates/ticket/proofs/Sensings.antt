@@ -24,17 +24,16 @@ use Rattle.ticket.proofs.Records.{gathers-more, gathers-same, lawful-none}
 -- the sensed literal
 pub sensed-added : (f : List ℕ) (n : ℕ) (place : Place) (ks : List ℕ) (k : ℕ) (precondition was is : List Literal) (r : Result (Unit {0}) Refusal) → HoldsSensing precondition was f n place ks → kind (part f k) ≡ 8 → AddsSensed f n ks k is r → Added f n place ks k (HoldsSensing precondition is f n place) r
 sensed-added f n place ks k precondition was is (Err r) h eight a = λ above. subst (λ q. Judged f n q above ks k (Some r)) (sym (h .where-it-is)) (a above)
-sensed-added f n place ks k precondition was is (Ok u) h eight a =
-    (
-      subst (λ q. Sound f n q ks k) (sym (h .where-it-is)) (a .sound),
-      record {
-        where-it-is = h .where-it-is;
-        literals = h .literals ∙ sym (gathers-same f ks k 8 eight (literal-at f) 5 refl);
-        lawful = h .lawful;
-        same = a .only ∙ sym (gathers-more f ks k 8 eight (literal-at f) 8 refl ∙ ap (λ l. map (literal-at f) l ++ literal-at f k ∷ []) (a .first));
-        within = ap (every (speaks-within n)) (a .only) ∙ and-from _ _ (a .within) refl;
-      },
-    )
+sensed-added f n place ks k precondition was is (Ok u) h eight a = (
+  subst (λ q. Sound f n q ks k) (sym (h .where-it-is)) (a .sound),
+  record {
+    where-it-is = h .where-it-is;
+    literals = h .literals ∙ sym (gathers-same f ks k 8 eight (literal-at f) 5 refl);
+    lawful = h .lawful;
+    same = a .only ∙ sym (gathers-more f ks k 8 eight (literal-at f) 8 refl ∙ ap (λ l. map (literal-at f) l ++ literal-at f k ∷ []) (a .first));
+    within = ap (every (speaks-within n)) (a .only) ∙ and-from _ _ (a .within) refl;
+  },
+)
 
 pub holds-none : (f : List ℕ) (n : ℕ) (precondition : List Literal) → precondition ≡ [] → HoldsSensing precondition [] f n under-sensing []
 holds-none f n precondition a = record { where-it-is = refl; literals = a; lawful = lawful-none n 32 precondition a; same = refl; within = refl }

@@ -43,45 +43,42 @@ module _ (f : List ℕ) (n : ℕ) (place : Place) (ks : List ℕ) (k : ℕ) (ter
 
   pub term-added : (is : List (List Literal)) (r : Result (Unit {0}) Refusal) → kind (part f k) ≡ 1 → AddsTop f n ks k (list-at f k) (lawful-list n 32) 256 terms is r → Added f n place ks k (HoldsTop is aims steps f n place) r
   term-added is (Err r) e a = faulty-there r a
-  term-added is (Ok u) e a =
-      (
-        sound-there (a .sound),
-        record {
-          where-it-is = h .where-it-is;
-          terms-same = longer-same f n ks k 1 e 1 refl (list-at f) _ _ _ _ a (h .terms-same);
-          terms-few = longer-few f n ks k 1 e 1 refl (list-at f) _ _ _ _ a;
-          terms-lawful = longer-lawful f n ks k 1 e 1 refl (list-at f) _ _ _ _ a (h .terms-lawful);
-          aims-same = h .aims-same ∙ sym (gathers-same f ks k 1 e (list-at f) 2 refl);
-          aims-lawful = h .aims-lawful;
-          steps-same = h .steps-same ∙ sym (gathers-same f ks k 1 e (step-at f) 3 refl);
-          steps-few = h .steps-few;
-          steps-lawful = h .steps-lawful;
-        },
-      )
+  term-added is (Ok u) e a = (
+    sound-there (a .sound),
+    record {
+      where-it-is = h .where-it-is;
+      terms-same = longer-same f n ks k 1 e 1 refl (list-at f) _ _ _ _ a (h .terms-same);
+      terms-few = longer-few f n ks k 1 e 1 refl (list-at f) _ _ _ _ a;
+      terms-lawful = longer-lawful f n ks k 1 e 1 refl (list-at f) _ _ _ _ a (h .terms-lawful);
+      aims-same = h .aims-same ∙ sym (gathers-same f ks k 1 e (list-at f) 2 refl);
+      aims-lawful = h .aims-lawful;
+      steps-same = h .steps-same ∙ sym (gathers-same f ks k 1 e (step-at f) 3 refl);
+      steps-few = h .steps-few;
+      steps-lawful = h .steps-lawful;
+    },
+  )
 
   pub aim-added : (is : List (List Literal)) (r : Result (Unit {0}) Refusal) → kind (part f k) ≡ 2 → AddsTop f n ks k (list-at f k) (lawful-list n 32) 1 aims is r → Added f n place ks k (HoldsTop terms is steps f n place) r
   aim-added is (Err r) e a = faulty-there r a
-  aim-added is (Ok u) e a =
-      (
-        sound-there (a .sound),
-        record {
-          where-it-is = h .where-it-is;
-          terms-same = h .terms-same ∙ sym (gathers-same f ks k 2 e (list-at f) 1 refl);
-          terms-few = h .terms-few;
-          terms-lawful = h .terms-lawful;
-          aims-same = longer-same f n ks k 2 e 2 refl (list-at f) _ _ _ _ a (h .aims-same);
-          aims-lawful = longer-lawful f n ks k 2 e 2 refl (list-at f) _ _ _ _ a (h .aims-lawful);
-          steps-same = h .steps-same ∙ sym (gathers-same f ks k 2 e (step-at f) 3 refl);
-          steps-few = h .steps-few;
-          steps-lawful = h .steps-lawful;
-        },
-      )
+  aim-added is (Ok u) e a = (
+    sound-there (a .sound),
+    record {
+      where-it-is = h .where-it-is;
+      terms-same = h .terms-same ∙ sym (gathers-same f ks k 2 e (list-at f) 1 refl);
+      terms-few = h .terms-few;
+      terms-lawful = h .terms-lawful;
+      aims-same = longer-same f n ks k 2 e 2 refl (list-at f) _ _ _ _ a (h .aims-same);
+      aims-lawful = longer-lawful f n ks k 2 e 2 refl (list-at f) _ _ _ _ a (h .aims-lawful);
+      steps-same = h .steps-same ∙ sym (gathers-same f ks k 2 e (step-at f) 3 refl);
+      steps-few = h .steps-few;
+      steps-lawful = h .steps-lawful;
+    },
+  )
 
   pub step-added : (is : List Step) (r : Result (Unit {0}) Refusal) → eqb (group (kind (part f k))) 3 ≡ true → AddsTop f n ks k (step-at f k) (lawful-step n) 32 steps is r → Added f n place ks k (HoldsTop terms aims is f n place) r
   step-added is (Err r) e a = faulty-there r a
   step-added is (Ok u) e a =
-      let three = eqb-true (group (kind (part f k))) 3 e in
-      (
+      let three = eqb-true (group (kind (part f k))) 3 e in (
         sound-there (a .sound),
         record {
           where-it-is = h .where-it-is;

@@ -36,9 +36,9 @@ left f k = cond (eqb k 0) 0 (length f - k)
 -- a good link is zero, or a later record of the file
 pub link-cases : (f : List ℕ) (k j : ℕ) → leads-on f k j ≡ true → (j ≡ 0) ⊎ ((k < j) × (8 * j + 8 ≤ length f))
 link-cases f k j h = elim (or-cases _ _ h) [
-  inl z ↦ inl (eqb-true j 0 z)
+  | inl z ↦ inl (eqb-true j 0 z)
   | inr p ↦ let q = and-parts (ltb k j) (inside f j) p in inr (ltb-true k j (q .0), leb-true (8 * j + 8) (length f) (q .1))
-  ]
+]
 
 pub next-cases : (f : List ℕ) (k : ℕ) → links-good f k ≡ true → (next (part f k) ≡ 0) ⊎ ((k < next (part f k)) × (8 * next (part f k) + 8 ≤ length f))
 next-cases f k h = link-cases f k _ (and-parts _ _ h .1)
@@ -51,9 +51,9 @@ pub nearer : (f : List ℕ) (k j : ℕ) → 0 < k → 8 * k + 8 ≤ length f →
 nearer f k j some within h e =
     rw (e, ne-eqb k 0 (λ z. omega arith))
     (elim (next-cases f k h) as (λ _. left f (next (part f k)) < length f - k) [
-      inl z ↦ rw z (omega arith)
+      | inl z ↦ rw z (omega arith)
       | inr p ↦ let q : 0 < next (part f k) = omega arith in rw (ne-eqb (next (part f k)) 0 (λ z. omega arith)) (omega arith)
-      ])
+    ])
 
 pub started : (f : List ℕ) (n : ℕ) (place : Place) (first : ℕ) (is : List ℕ → Type 0) → is [] → Walked f n place first first is
 started f n place first is kept =

@@ -1,6 +1,6 @@
 -- When effects clash, by their literals alone: for lawful lists this is the same as by worlds.
 use mathlib.Core.Bool.{Bool, false, _&&_, _||_}
-use mathlib.Core.List.{List, [], _∷_}
+use mathlib.Core.List.{[], _∷_}
 use Rattle.worlds.specs.Worlds.{same-literal, opposite, compatible}
 use Rattle.worlds.specs.Steps.{Effect, Outcome}
 

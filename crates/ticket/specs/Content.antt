@@ -1,11 +1,10 @@
 -- What the chains of a file hold.
-use mathlib.Core.Bool.{Bool, cond}
+use mathlib.Core.Bool.{cond}
 use mathlib.Core.List.{List, [], _∷_, map}
 use Prim.Native.Nat.{ℕ, zero, suc}
 use lib.Dec.{eqb}
-use lib.IntN.{ℤ, pos, natAbs}
+use lib.IntN.{pos, natAbs}
 use lib.ListN.{length}
-
 use Rattle.std.specs.shelf.Lists.{kept-by}
 use Rattle.worlds.specs.Worlds.{Literal}
 use Rattle.worlds.specs.Steps.{Effect, Outcome, Step, action, sensing}

@@ -6,12 +6,10 @@ use Rattle.std.specs.declared.option.Option.the-variants.{Some, None}
 use Rattle.std.specs.declared.result.Result.{Result}
 use Rattle.std.specs.declared.result.Result.the-variants.{Ok, Err}
 use Rattle.std.specs.declared.option.Option.{Option}
-use Rattle.ticket.specs.declared.part.Part.{Part}
 use Rattle.ticket.specs.declared.refusal.Refusal.{Refusal}
 use Rattle.ticket.specs.declared.refusal.Fault.{Fault}
 use Rattle.ticket.specs.Layout.{part, kind, below}
 use Rattle.ticket.specs.Content.{chain}
-use Rattle.ticket.specs.Chains.{Handed}
 use Rattle.ticket.specs.Judging.{Place, Judged, record-fault, under}
 
 -- neither record k nor anything under it is at fault
@@ -19,8 +17,8 @@ pub record Sound (f : List ℕ) (n : ℕ) (place : Place) (earlier : List ℕ) (
   pub itself : record-fault f n place earlier k ≡ None
   pub chain-under : Judged f n (under (kind (part f k)) earlier) k [] (below (part f k)) None
 
--- what adding record k to a draft answers: `was` and `is` say of some records that the draft held them before, and
--- holds them now
+-- what adding record k to a draft that holds the records `earlier` answers: nothing is at fault and the draft holds k
+-- too, as `is` says of some records, or the first fault
 abbrev pub Added : List ℕ → ℕ → Place → List ℕ → ℕ → (List ℕ → Type 0) → Result (Unit {0}) Refusal → Type 0
 Added f n place earlier k is (Ok x) = Sound f n place earlier k × is (earlier ++ k ∷ [])
 Added f n place earlier k is (Err r) = (above : ℕ) → Judged f n place above earlier k (Some r)

@@ -1,6 +1,6 @@
 -- How a file is judged: each record, next the chain under it, next its follower; the first fault is the answer.
 use mathlib.Core.Path.{_≡_}
-use mathlib.Core.Bool.{Bool, true, false, not, _&&_, _||_, cond}
+use mathlib.Core.Bool.{Bool, false, not, _&&_, _||_, cond}
 use mathlib.Core.List.{List, [], _∷_, _++_, map}
 use Prim.Native.Nat.{ℕ, _<_}
 use lib.Dec.{eqb, leb, ltb}
@@ -8,7 +8,7 @@ use lib.IntN.{ℤ, pos, negsuc}
 use lib.ListN.{length}
 use Rattle.std.specs.declared.option.Option.{Option}
 use Rattle.std.specs.declared.option.Option.the-variants.{Some, None}
-use Rattle.worlds.specs.Worlds.{Literal, opposite, speaks-within, has-literal}
+use Rattle.worlds.specs.Worlds.{opposite, speaks-within, has-literal}
 use Rattle.worlds.specs.Tickets.{clashes}
 use Rattle.ticket.specs.declared.refusal.Refusal.{Refusal}
 use Rattle.ticket.specs.declared.refusal.Fault.{Fault}
@@ -65,11 +65,11 @@ bare kd = eqb kd 5 || eqb kd 8
 
 -- the fault of a record r of kind kd, in a chain with room for so many of its group, of which so many stand before it
 abbrev pub fault-of : ℕ → ℕ → ℕ → ℕ → Bool → List ℕ → Option Fault
-fault-of n kd most standing opposed r =
+fault-of n kd most standing over r =
     cond (leb most 0 || (bare kd && not (eqb (below r) 0))) (Some Kind)
     (cond (leb most standing) (Some Limit)
     (cond (not (value-good n kd (value r))) (Some Value)
-    (cond opposed (Some Opposite) None)))
+    (cond over (Some Opposite) None)))
 
 -- whether r is a literal whose opposite is among the literals before it in its chain
 abbrev pub opposed : List ℕ → List ℕ → ℕ → List ℕ → Bool

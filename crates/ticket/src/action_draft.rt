@@ -31,7 +31,12 @@ pub(crate) struct ActionDraft {
 }
 
 // Adds the outcome of a record to those before it in its chain.
-fn add_outcome<'a>(outcomes: &mut Few<Outcome, 4>, file: &'a [u8], n: u16, part: Part<'a>) -> Result<(), Refusal>
+fn add_outcome<'a>(
+    outcomes: &mut Few<Outcome, 4>,
+    file: &'a [u8],
+    n: u16,
+    part: Part<'a>,
+) -> Result<(), Refusal>
     requires { ⌜ (inside (now file) (below (now (part .bytes))) ≡ true) × (n ≤ 32) ⌝ }
     ensures { λ r. ⌜ ((ks : List ℕ) → Handed (now (file .entry)) (part .entry .number) (part .entry) → kind (now (part .entry .bytes)) ≡ 6 → map outcome-of (listed (now (outcomes .entry))) ≡ map (outcome-at (now (file .entry))) (among (now (file .entry)) 6 ks) → AddsOutcome (now (file .entry)) n ks (part .entry .number) (map outcome-of (listed (now (outcomes .entry)))) (map outcome-of (listed (now (outcomes .exit)))) r) ⌝ }
 {
@@ -54,18 +59,36 @@ pub(crate) impl Draft for ActionDraft as ActionDraftDraft {
 }
 
 // Reads the action of record `number`, whose chain starts at record `first`.
-pub(crate) fn read_action(file: &[u8], n: u16, class: u8, number: u16, first: u16) -> Result<Step, Refusal>
+pub(crate) fn read_action(
+    file: &[u8],
+    n: u16,
+    class: u8,
+    number: u16,
+    first: u16,
+) -> Result<Step, Refusal>
     requires { ⌜ (inside (now file) first ≡ true) × (n ≤ 32) ⌝ }
     ensures { λ r. ⌜ ReadsWhole (now (file .entry)) n under-action number first (λ s. StepRead n (action-from (now (file .entry)) class (chain (now (file .entry)) first)) (step-of s)) r ⌝ }
 {
-    let blank = Effect { conditions: Few::none(0), result: 0 };
+    let blank = Effect {
+        conditions: Few::none(0),
+        result: 0,
+    };
     let mut draft = ActionDraft {
         precondition: Few::none(0),
-        outcomes: Few::none(Outcome { effects: Few::none(blank) }),
+        outcomes: Few::none(Outcome {
+            effects: Few::none(blank),
+        }),
     };
     gather(&mut draft, file, n, first)?;
     if draft.outcomes.len() == 0 {
-        return Err(Refusal { fault: Fault::Missing, record: number });
+        return Err(Refusal {
+            fault: Fault::Missing,
+            record: number,
+        });
     }
-    Ok(Step::Action(Action { class, precondition: draft.precondition, outcomes: draft.outcomes }))
+    Ok(Step::Action(Action {
+        class,
+        precondition: draft.precondition,
+        outcomes: draft.outcomes,
+    }))
 }

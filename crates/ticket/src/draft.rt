@@ -22,7 +22,12 @@ pub(crate) trait Draft {
 }
 
 // Gathers the whole chain from record `first` on, or answers its first fault.
-pub(crate) fn gather<D: Draft>(draft: &mut D, file: &[u8], n: u16, first: u16) -> Result<(), Refusal>
+pub(crate) fn gather<D: Draft>(
+    draft: &mut D,
+    file: &[u8],
+    n: u16,
+    first: u16,
+) -> Result<(), Refusal>
     requires { ⌜ (inside (now file) first ≡ true) × (n ≤ 32) ⌝ }
     ensures { λ r. ⌜ ((place : Place) → holds (now (draft .entry)) (now (file .entry)) n place [] → Gathered (now (file .entry)) n place first (holds (now (draft .exit)) (now (file .entry)) n place) r) ⌝ }
 {

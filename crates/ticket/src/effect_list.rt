@@ -25,13 +25,21 @@ use worlds::step::Effect;
 use worlds::step::Outcome;
 
 // Reads one effect, after the earlier ones of its outcome.
-fn read_effect<'a>(file: &'a [u8], n: u16, part: Part<'a>, earlier: &[Effect]) -> Result<Effect, Refusal>
+fn read_effect<'a>(
+    file: &'a [u8],
+    n: u16,
+    part: Part<'a>,
+    earlier: &[Effect],
+) -> Result<Effect, Refusal>
     requires { ⌜ (inside (now file) (below (now (part .bytes))) ≡ true) × (n ≤ 32) ⌝ }
     ensures { λ r. ⌜ ((ks : List ℕ) → Handed (now (file .entry)) (part .entry .number) (part .entry) → kind (now (part .entry .bytes)) ≡ 7 → length (among (now (file .entry)) 7 ks) ≡ length (now (earlier .entry)) → map effect-of (now (earlier .entry)) ≡ map (effect-at (now (file .entry))) ks → every (lawful-effect n) (map effect-of (now (earlier .entry))) ≡ true → ReadsEffect (now (file .entry)) n ks (part .entry .number) (map effect-of (now (earlier .entry))) r) ⌝ }
 {
     part.judged(n, 4, earlier.len())?;
     let conditions = read_conditions(file, n, part.below())?;
-    let effect = Effect { conditions, result: part.value() };
+    let effect = Effect {
+        conditions,
+        result: part.value(),
+    };
     if is_clashing(earlier, &effect) {
         return Err(part.refused(Fault::Opposite));
     }
@@ -61,8 +69,15 @@ pub(crate) fn read_outcome(file: &[u8], n: u16, first: u16) -> Result<Outcome, R
     requires { ⌜ (inside (now file) first ≡ true) × (n ≤ 32) ⌝ }
     ensures { λ r. ⌜ Reads (now (file .entry)) n under-outcome first (λ o. OutcomeRead (now (file .entry)) n first (outcome-of o)) r ⌝ }
 {
-    let blank = Effect { conditions: Few::none(0), result: 0 };
-    let mut list = EffectList { effects: Few::none(blank) };
+    let blank = Effect {
+        conditions: Few::none(0),
+        result: 0,
+    };
+    let mut list = EffectList {
+        effects: Few::none(blank),
+    };
     gather(&mut list, file, n, first)?;
-    Ok(Outcome { effects: list.effects })
+    Ok(Outcome {
+        effects: list.effects,
+    })
 }

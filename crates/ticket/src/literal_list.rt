@@ -40,7 +40,9 @@ pub(crate) fn read_list(file: &[u8], n: u16, first: u16) -> Result<Term, Refusal
     requires { ⌜ (inside (now file) first ≡ true) × (n ≤ 32) ⌝ }
     ensures { λ r. ⌜ Reads (now (file .entry)) n under-list first (λ list. ListRead 32 (now (file .entry)) n first (listed list)) r ⌝ }
 {
-    let mut list: LiteralList<32> = LiteralList { literals: Few::none(0) };
+    let mut list: LiteralList<32> = LiteralList {
+        literals: Few::none(0),
+    };
     gather(&mut list, file, n, first)?;
     Ok(list.literals)
 }
@@ -50,7 +52,9 @@ pub(crate) fn read_conditions(file: &[u8], n: u16, first: u16) -> Result<Few<Lit
     requires { ⌜ (inside (now file) first ≡ true) × (n ≤ 32) ⌝ }
     ensures { λ r. ⌜ ((earlier : List ℕ) → Reads (now (file .entry)) n (under-effect earlier) first (λ list. ListRead 4 (now (file .entry)) n first (listed list)) r) ⌝ }
 {
-    let mut list: LiteralList<4> = LiteralList { literals: Few::none(0) };
+    let mut list: LiteralList<4> = LiteralList {
+        literals: Few::none(0),
+    };
     gather(&mut list, file, n, first)?;
     Ok(list.literals)
 }

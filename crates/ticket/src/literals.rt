@@ -10,14 +10,18 @@ ghost use Rattle.worlds.specs.Worlds.{has-literal, opposite};
 ghost use Rattle.ticket.specs.Layout.{kind, value};
 ghost use Rattle.ticket.specs.Judging.{fault-of};
 ghost use Rattle.ticket.specs.Drafts.{verdict};
+use crate::opposites::is_opposed;
 use crate::part::Part;
 use crate::refusal::Fault;
 use crate::refusal::Refusal;
-use crate::opposites::is_opposed;
 use worlds::few::Few;
 
 // Adds the literal of a record to the list of its chain, or says what is at fault with the record.
-pub(crate) fn push_literal<const N: usize>(list: &mut Few<i16, N>, n: u16, part: &Part) -> Result<(), Refusal>
+pub(crate) fn push_literal<const N: usize>(
+    list: &mut Few<i16, N>,
+    n: u16,
+    part: &Part,
+) -> Result<(), Refusal>
     requires { ⌜ (kind (now (now part .bytes)) ≡ 5) × (n ≤ 32) ⌝ }
     ensures answer { λ r. ⌜ r ≡ verdict (now (part .entry) .number) (fault-of n 5 N (length (listed (now (list .entry)))) (has-literal (opposite (value (now (now (part .entry) .bytes)))) (listed (now (list .entry)))) (now (now (part .entry) .bytes))) ⌝ }
     ensures items { λ r. ⌜ listed (now (list .exit)) ≡ cond (isOk r) (listed (now (list .entry)) ++ value (now (now (part .entry) .bytes)) ∷ []) (listed (now (list .entry))) ⌝ }

@@ -41,7 +41,8 @@ fn are_compatible(list: &[Literal], other: &[Literal]) -> bool
 fn in_conflict(earlier: &Effect, effect: &Effect) -> bool
     ensures { λ r. ⌜ r ≡ conflict (effect-of (now (earlier .entry))) (effect-of (now (effect .entry))) ⌝ }
 {
-    is_contrary(earlier.result, effect.result) && are_compatible(earlier.conditions.as_slice(), effect.conditions.as_slice())
+    is_contrary(earlier.result, effect.result)
+        && are_compatible(earlier.conditions.as_slice(), effect.conditions.as_slice())
 }
 
 // Whether an effect clashes with one of the earlier effects of its outcome.

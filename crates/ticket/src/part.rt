@@ -52,6 +52,9 @@ impl Part<'_> {
     pub(crate) fn refused(&self, fault: Fault) -> Refusal
         ensures { λ r. ⌜ r ≡ record { fault = fault; «record» = now (self .entry) .number } ⌝ }
     {
-        Refusal { fault, record: self.number }
+        Refusal {
+            fault,
+            record: self.number,
+        }
     }
 }

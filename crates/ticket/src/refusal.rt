@@ -12,11 +12,11 @@ pub enum Fault {
     Conditions,
     // a link neither ends the chain nor leads on to a later record of the file
     Link,
-    // the kind cannot stand in this chain, or a literal has a chain
+    // the kind cannot stand in this chain, or a literal or sensed literal has a chain under it
     Kind,
     // the value is not one that the kind may have
     Value,
-    // a literal beside its opposite, or an effect that clashes with an earlier one
+    // a literal whose opposite stands before it in its chain, or an effect that clashes with an earlier one
     Opposite,
     // one more than the chain may hold
     Limit,

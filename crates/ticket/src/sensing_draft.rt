@@ -52,14 +52,30 @@ impl Draft for SensingDraft as SensingDraftDraft {
 }
 
 // Reads the sensing step of record `number`, whose chain starts at record `first`.
-pub(crate) fn read_sensing(file: &[u8], n: u16, class: u8, number: u16, first: u16) -> Result<Step, Refusal>
+pub(crate) fn read_sensing(
+    file: &[u8],
+    n: u16,
+    class: u8,
+    number: u16,
+    first: u16,
+) -> Result<Step, Refusal>
     requires { ⌜ (inside (now file) first ≡ true) × (n ≤ 32) ⌝ }
     ensures { λ r. ⌜ ReadsWhole (now (file .entry)) n under-sensing number first (λ s. StepRead n (sensing-from (now (file .entry)) class (chain (now (file .entry)) first)) (step-of s)) r ⌝ }
 {
-    let mut draft = SensingDraft { precondition: Few::none(0), sensed: None };
+    let mut draft = SensingDraft {
+        precondition: Few::none(0),
+        sensed: None,
+    };
     gather(&mut draft, file, n, first)?;
     let Some(sensed) = draft.sensed else {
-        return Err(Refusal { fault: Fault::Missing, record: number });
+        return Err(Refusal {
+            fault: Fault::Missing,
+            record: number,
+        });
     };
-    Ok(Step::Sensing(Sensing { class, precondition: draft.precondition, sensed }))
+    Ok(Step::Sensing(Sensing {
+        class,
+        precondition: draft.precondition,
+        sensed,
+    }))
 }

@@ -6,6 +6,7 @@ ghost use Rattle.ticket.specs.Meaning.{ticket-with};
 use crate::contents::Contents;
 
 mod calls;
+mod questions;
 
 #[derive(Drop)]
 pub struct Ticket {

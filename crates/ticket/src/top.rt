@@ -23,7 +23,12 @@ use worlds::step::Step;
 use worlds::step::Term;
 
 // Adds the term of a record.
-pub(crate) fn add_term<'a>(terms: &mut Vec<Term>, file: &'a [u8], n: u16, part: Part<'a>) -> Result<(), Refusal>
+pub(crate) fn add_term<'a>(
+    terms: &mut Vec<Term>,
+    file: &'a [u8],
+    n: u16,
+    part: Part<'a>,
+) -> Result<(), Refusal>
     requires { ⌜ (inside (now file) (below (now (part .bytes))) ≡ true) × (n ≤ 32) × (256 ≤ vec-cap (now terms)) ⌝ }
     ensures answer { λ r. ⌜ ((ks : List ℕ) → Handed (now (file .entry)) (part .entry .number) (part .entry) → kind (now (part .entry .bytes)) ≡ 1 → map listed (vec-items (now (terms .entry))) ≡ map (list-at (now (file .entry))) (among (now (file .entry)) 1 ks) → AddsTop (now (file .entry)) n ks (part .entry .number) (list-at (now (file .entry)) (part .entry .number)) (lawful-list n 32) 256 (map listed (vec-items (now (terms .entry)))) (map listed (vec-items (now (terms .exit)))) r) ⌝ }
     ensures room { λ _. ⌜ 256 ≤ vec-cap (now (terms .exit)) ⌝ }
@@ -35,7 +40,12 @@ pub(crate) fn add_term<'a>(terms: &mut Vec<Term>, file: &'a [u8], n: u16, part: 
 }
 
 // Takes the aim of a record, the only one.
-pub(crate) fn add_aim<'a>(aim: &mut Option<Term>, file: &'a [u8], n: u16, part: Part<'a>) -> Result<(), Refusal>
+pub(crate) fn add_aim<'a>(
+    aim: &mut Option<Term>,
+    file: &'a [u8],
+    n: u16,
+    part: Part<'a>,
+) -> Result<(), Refusal>
     requires { ⌜ (inside (now file) (below (now (part .bytes))) ≡ true) × (n ≤ 32) ⌝ }
     ensures { λ r. ⌜ ((ks : List ℕ) → Handed (now (file .entry)) (part .entry .number) (part .entry) → kind (now (part .entry .bytes)) ≡ 2 → map listed (listOf (now (aim .entry))) ≡ map (list-at (now (file .entry))) (among (now (file .entry)) 2 ks) → AddsTop (now (file .entry)) n ks (part .entry .number) (list-at (now (file .entry)) (part .entry .number)) (lawful-list n 32) 1 (map listed (listOf (now (aim .entry)))) (map listed (listOf (now (aim .exit)))) r) ⌝ }
 {
@@ -57,7 +67,12 @@ fn read_step<'a>(file: &'a [u8], n: u16, part: Part<'a>) -> Result<Step, Refusal
 }
 
 // Adds the step of a record.
-pub(crate) fn add_step<'a>(steps: &mut Vec<Step>, file: &'a [u8], n: u16, part: Part<'a>) -> Result<(), Refusal>
+pub(crate) fn add_step<'a>(
+    steps: &mut Vec<Step>,
+    file: &'a [u8],
+    n: u16,
+    part: Part<'a>,
+) -> Result<(), Refusal>
     requires { ⌜ (inside (now file) (below (now (part .bytes))) ≡ true) × (n ≤ 32) × (32 ≤ vec-cap (now steps)) ⌝ }
     ensures answer { λ r. ⌜ ((ks : List ℕ) → Handed (now (file .entry)) (part .entry .number) (part .entry) → eqb (group (kind (now (part .entry .bytes)))) 3 ≡ true → map step-of (vec-items (now (steps .entry))) ≡ map (step-at (now (file .entry))) (among (now (file .entry)) 3 ks) → AddsTop (now (file .entry)) n ks (part .entry .number) (step-at (now (file .entry)) (part .entry .number)) (lawful-step n) 32 (map step-of (vec-items (now (steps .entry)))) (map step-of (vec-items (now (steps .exit)))) r) ⌝ }
     ensures room { λ _. ⌜ 32 ≤ vec-cap (now (steps .exit)) ⌝ }

@@ -1,14 +1,12 @@
 -- What the code's own types mean: each has one function into the subject's values.
 use mathlib.Core.List.{List, map}
 use Prim.Native.Nat.{ℕ}
-use lib.IntN.{ℤ}
 use lib.ListN.{take}
 use Rattle.worlds.specs.declared.few.Few.{Few}
 use Rattle.worlds.specs.declared.step.Effect as code-effect
 use Rattle.worlds.specs.declared.step.Outcome as code-outcome
 use Rattle.worlds.specs.declared.step.Step as code-step
 use Rattle.worlds.specs.declared.step.Step.the-variants.{Action, Sensing}
-use Rattle.worlds.specs.Worlds.{Literal}
 use Rattle.worlds.specs.Steps.{Effect, Outcome, Step, action, sensing}
 
 -- the elements of a list that is kept in place

@@ -1,8 +1,8 @@
 -- Actions and sensing steps, and what an outcome does to one world.
 use mathlib.Core.Bool.{Bool, true, false, _&&_, _||_, cond}
 use mathlib.Core.List.{List, [], _∷_}
-use Prim.Native.Nat.{ℕ, suc, _-_}
-use lib.IntN.{ℤ, pos, negsuc}
+use Prim.Native.Nat.{ℕ}
+use lib.IntN.{pos}
 use Rattle.worlds.specs.Worlds.{World, value, world-by, Literal, meets, opposite, same-literal}
 
 -- an effect: where a world meets the conditions, the result is so afterwards

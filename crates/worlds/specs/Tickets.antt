@@ -4,15 +4,24 @@ use mathlib.Core.List.{List, [], _∷_}
 use Prim.Native.Nat.{ℕ}
 use lib.Dec.{leb, ltb}
 use lib.ListN.{length}
-use Rattle.worlds.specs.Worlds.{Literal, opposite, meets, some-world, speaks-within, same-literal, consistent}
+use Rattle.worlds.specs.Worlds.{World, Literal, opposite, meets, some-world, speaks-within, same-literal, consistent}
 use Rattle.worlds.specs.Steps.{Effect, Outcome, Step, action, sensing}
 
--- a ticket: n conditions; terms, of which each starting world meets at least one; the aim; the steps, numbered from 0
+-- a ticket: n conditions; terms, by which its worlds may start; the aim; the steps, numbered from 0
 pub record Ticket : Type 0 where
   pub conditions : ℕ
   pub terms : List (List Literal)
   pub aim : List Literal
   pub steps : List Step
+
+-- whether a world meets at least one of some lists
+abbrev pub meets-some : (n : ℕ) → World n → List (List Literal) → Bool
+meets-some n w [] = false
+meets-some n w (l ∷ ls) = meets n w l || meets-some n w ls
+
+-- the starting worlds of a ticket: exactly those that meet at least one term
+abbrev pub starts : (t : Ticket) → World (t .conditions) → Bool
+starts t w = meets-some (t .conditions) w (t .terms)
 
 -- whether all of a list pass a test
 abbrev pub every : {X : Type 0} → (X → Bool) → List X → Bool

@@ -1,6 +1,8 @@
+// Theorems on the subject. Each stands as the contract of a function that computes nothing.
 ghost use Rattle.worlds.specs.Laws.{Compatible-lists};
 
-// Two lists clash exactly where one has the opposite of a literal of the other.
+// Some world meets two lists exactly where no literal of one has its opposite in the other; each list by itself has to
+// be free of opposites.
 pub fn compatible_lists() -> u8
     ensures { λ _. ⌜ Compatible-lists ⌝ }
 {

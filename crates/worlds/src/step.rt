@@ -4,7 +4,7 @@ use crate::few::Few;
 // p says that condition p is true, -p that it is false.
 pub type Literal = i16;
 
-// A list of literals, none of whose opposites is in it.
+// A list of up to 32 literals. That no ticket has a literal beside its opposite in one is a law of the ticket.
 pub type Term = Few<Literal, 32>;
 
 #[derive(Copy)]

@@ -30,7 +30,9 @@ fn part_at(file: &[u8], number: u16) -> Part<'_>
     ensures bytes { λ r. ⌜ now (r .bytes) ≡ part (now (file .entry)) number ⌝ }
 {
     let at = 8 * usize::from(number);
-    let Some(bytes) = file[at..].first_chunk::<8>() else { unreachable() };
+    let Some(bytes) = file[at..].first_chunk::<8>() else {
+        unreachable()
+    };
     Part { number, bytes }
 }
 

@@ -49,7 +49,11 @@ impl Contents {
         let steps = Vec::with_capacity(heap, 32)?;
         let list: Term = Few::none(0);
         terms.push_reserved(list);
-        Ok(Contents { terms, aim: Some(list), steps })
+        Ok(Contents {
+            terms,
+            aim: Some(list),
+            steps,
+        })
     }
 
     pub(crate) fn clear(&mut self)
@@ -87,7 +91,10 @@ impl Contents {
         self.clear();
         gather(self, file, n, first)?;
         if self.is_incomplete() {
-            return Err(Refusal { fault: Fault::Missing, record: 0 });
+            return Err(Refusal {
+                fault: Fault::Missing,
+                record: 0,
+            });
         }
         Ok(())
     }

@@ -1,7 +1,5 @@
 ghost use mathlib.Core.Path.{_≡_};
-ghost use mathlib.Core.List.{map};
 ghost use Rattle.std.specs.Vec.{made};
-ghost use Rattle.worlds.specs.Meaning.{listed, step-of};
 ghost use Rattle.ticket.specs.Tickets.{ticket-of, blank, ReadAs};
 use crate::contents::Contents;
 use crate::head::read_head;
@@ -9,9 +7,6 @@ use crate::refusal::Refusal;
 use crate::ticket::Ticket;
 use std::alloc::AllocError;
 use std::alloc::Global;
-use worlds::few::Few;
-use worlds::step::Step;
-use worlds::step::Term;
 
 impl Ticket {
     // A ticket of one condition that starts anywhere, aims at nothing and has no steps, with room for every ticket.
@@ -20,7 +15,11 @@ impl Ticket {
     {
         let kept = Contents::new(heap)?;
         let spare = Contents::new(heap)?;
-        Ok(Ticket { conditions: 1, kept, spare })
+        Ok(Ticket {
+            conditions: 1,
+            kept,
+            spare,
+        })
     }
 
     // Fills the ticket from a file of any bytes, or answers the file's fault and leaves the ticket as it was.
@@ -40,32 +39,5 @@ impl Ticket {
     {
         self.kept.copy_from(&other.kept);
         self.conditions = other.conditions;
-    }
-
-    pub fn conditions(&self) -> u16
-        ensures { λ r. ⌜ r ≡ ticket-of (now (self .entry)) .conditions ⌝ }
-    {
-        self.conditions
-    }
-
-    pub fn terms(&self) -> &[Term]
-        ensures { λ r. ⌜ map listed (now r) ≡ ticket-of (now (self .entry)) .terms ⌝ }
-    {
-        self.kept.terms.as_slice()
-    }
-
-    pub fn aim(&self) -> Term
-        ensures { λ r. ⌜ listed r ≡ ticket-of (now (self .entry)) .aim ⌝ }
-    {
-        match self.kept.aim {
-            Some(aim) => aim,
-            None => Few::none(0),
-        }
-    }
-
-    pub fn steps(&self) -> &[Step]
-        ensures { λ r. ⌜ map step-of (now r) ≡ ticket-of (now (self .entry)) .steps ⌝ }
-    {
-        self.kept.steps.as_slice()
     }
 }

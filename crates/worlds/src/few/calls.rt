@@ -11,7 +11,10 @@ impl<T: Copy, const N: usize> Few<T, N> {
     pub fn none(filler: T) -> Self
         ensures { λ r. ⌜ listed r ≡ [] ⌝ }
     {
-        Few { items: [filler; N], len: 0 }
+        Few {
+            items: [filler; N],
+            len: 0,
+        }
     }
 
     pub fn len(&self) -> usize

@@ -18,17 +18,17 @@ returns-in-Break-judged c =
     let p = err-from-errBy (c .from-residual .result) (c .from-residual .ensures .1) in
     rw (p .1, p .2)
     (λ ks h e same.
-        let count = counted (c .args .file .now) 6 ks (outcome-at (c .args .file .now)) outcome-of _ same ∙ sym (c .len .ensures) in
-        own-broke _ _ under-action ks _ _ h 6 4 _ e refl count refl _ (c .in-Break-judged .ensures tt))
+    let count = counted (c .args .file .now) 6 ks (outcome-at (c .args .file .now)) outcome-of _ same ∙ sym (c .len .ensures) in
+    own-broke _ _ under-action ks _ _ h 6 4 _ e refl count refl _ (c .in-Break-judged .ensures tt))
 
 pub returns-in-Break-outcome : need.returns-in-Break-outcome
 returns-in-Break-outcome c =
     let p = err-from-errBy (c .from-residual-in-Break-outcome .result) (c .from-residual-in-Break-outcome .ensures .1) in
     rw (p .1, p .2)
     (λ ks h e same.
-        let count = counted (c .args .file .now) 6 ks (outcome-at (c .args .file .now)) outcome-of _ same ∙ sym (c .len .ensures) in
-        let passed = own-passed _ _ under-action ks _ _ h 6 4 _ e refl count refl _ (c .in-Continue-judged .ensures tt) in
-        below-broke _ _ under-action ks _ _ h 6 4 _ e refl count refl (passed .0) _ (c .below .ensures) _ (c .in-Break-outcome .ensures tt _))
+    let count = counted (c .args .file .now) 6 ks (outcome-at (c .args .file .now)) outcome-of _ same ∙ sym (c .len .ensures) in
+    let passed = own-passed _ _ under-action ks _ _ h 6 4 _ e refl count refl _ (c .in-Continue-judged .ensures tt) in
+    below-broke _ _ under-action ks _ _ h 6 4 _ e refl count refl (passed .0) _ (c .below .ensures) _ (c .in-Break-outcome .ensures tt _))
 
 pub returns : need.returns
 returns c = λ ks h e same.

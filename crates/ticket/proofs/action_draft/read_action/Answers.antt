@@ -18,8 +18,7 @@ pub returns : need.returns
 returns c =
     let read = c .in-Continue-gather .ensures tt under-action (holds-none _ _ _ _ (c .none-2 .ensures) (ap (map outcome-of) (c .none-4 .ensures))) in
     let count = length-map (listed (c .gather .last .draft .outcomes)) outcome-of ∙ sym (c .len .ensures) in
-    let some : 0 < length (map outcome-of (listed (c .gather .last .draft .outcomes))) = omega arith in
-    (
+    let some : 0 < length (map outcome-of (listed (c .gather .last .draft .outcomes))) = omega arith in (
       action-read _ _ _ _ _ (read .0) (c .args .class) (omega arith) some,
       read .1 _ _ (ended refl (ap (at-record (c .args .number)) (sym (action-complete _ _ _ _ _ (read .0) some)))),
     )

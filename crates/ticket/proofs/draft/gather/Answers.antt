@@ -22,9 +22,9 @@ returns-in-Break-part g c =
     let p = err-from-errBy (c .from-residual .result) (c .from-residual .ensures .1) in
     rw (p .1, p .2)
     (λ place h above.
-        let fault = c .in-Break-part .ensures tt in
-        let links = ap (λ f. links-good f (c .loop-part .chain .place)) (sym (c .loop-part .inv .0)) ∙ fault .1 in
-        broken-link _ _ place _ _ _ (c .loop-part .inv .1 place h) (fault .0) links _ (fault .2) above)
+    let fault = c .in-Break-part .ensures tt in
+    let links = ap (λ f. links-good f (c .loop-part .chain .place)) (sym (c .loop-part .inv .0)) ∙ fault .1 in
+    broken-link _ _ place _ _ _ (c .loop-part .inv .1 place h) (fault .0) links _ (fault .2) above)
 
 pub loop-part-again : need.loop-part-again
 loop-part-again g c =
@@ -34,8 +34,7 @@ loop-part-again g c =
     let taken = subst (λ o. Takes (c .loop-part .chain .file .now) k (c .take .last .self .file .now) (c .take .last .self .place) (Ok o)) (c .in-Some .is) (c .in-Continue-part .ensures tt) in
     let handed = subst (λ l. Handed l k (c .in-Some .part)) same (taken .0) in
     let on = taken .2 ∙ ap (λ l. next (part l k)) same in
-    let inside = subst (λ l. 8 * k + 8 ≤ length l) same (c .loop-part .chain .inside) in
-    (
+    let inside = subst (λ l. 8 * k + 8 ≤ length l) same (c .loop-part .chain .inside) in (
       taken .1 ∙ same,
       λ place h.
           let w = c .loop-part .inv .1 place h in

@@ -26,8 +26,8 @@ returns-in-Break-conditions c =
     let p = err-from-errBy (c .from-residual-in-Break-conditions .result) (c .from-residual-in-Break-conditions .ensures .1) in
     rw (p .1, p .2)
     (λ ks h e count same lawful.
-        let passed = own-passed _ _ under-outcome ks _ _ h 7 4 _ e refl count refl _ (c .in-Continue-judged .ensures tt) in
-        below-broke _ _ under-outcome ks _ _ h 7 4 _ e refl count refl (passed .0) _ (c .below .ensures) _ (c .in-Break-conditions .ensures tt ks _))
+    let passed = own-passed _ _ under-outcome ks _ _ h 7 4 _ e refl count refl _ (c .in-Continue-judged .ensures tt) in
+    below-broke _ _ under-outcome ks _ _ h 7 4 _ e refl count refl (passed .0) _ (c .below .ensures) _ (c .in-Break-conditions .ensures tt ks _))
 
 pub returns-then-is-clashing : need.returns-then-is-clashing
 returns-then-is-clashing c = λ ks h e count same lawful above.

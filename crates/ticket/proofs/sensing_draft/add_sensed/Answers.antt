@@ -20,8 +20,8 @@ returns-in-Break-judged c =
     let p = err-from-errBy (c .from-residual .result) (c .from-residual .ensures .1) in
     rw (p .1, p .2)
     (λ f ks h e same.
-        let count = sym (length-map (among f 8 ks) (literal-at f)) ∙ ap length (sym same) ∙ sym (c .standing .ensures) in
-        own-broke f _ under-sensing ks _ _ h 8 1 _ e refl count refl _ (c .in-Break-judged .ensures tt))
+    let count = sym (length-map (among f 8 ks) (literal-at f)) ∙ ap length (sym same) ∙ sym (c .standing .ensures) in
+    own-broke f _ under-sensing ks _ _ h 8 1 _ e refl count refl _ (c .in-Break-judged .ensures tt))
 
 pub returns : need.returns
 returns c = λ f ks h e same.

@@ -19,8 +19,7 @@ pub returns : need.returns
 returns c =
     let read = c .in-Continue-gather .ensures tt under-sensing (holds-none _ _ _ (c .none .ensures)) in
     let fits : SFits w16 (c .in-Some .sensed) = search needs in
-    let one = ap listOf (c .in-Some .is) ∙ ap (λ l. l ∷ []) (sym (toZ-ofZ w16 _ fits)) in
-    (
+    let one = ap listOf (c .in-Some .is) ∙ ap (λ l. l ∷ []) (sym (toZ-ofZ w16 _ fits)) in (
       sensing-read _ _ _ _ _ (read .0) (c .args .class) _ (omega arith) one,
       read .1 _ _ (ended refl (ap (at-record (c .args .number)) (sym (sensing-complete _ _ _ _ _ (read .0) _ one)))),
     )

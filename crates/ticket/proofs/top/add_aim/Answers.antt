@@ -19,19 +19,19 @@ returns-in-Break-judged c =
     let p = err-from-errBy (c .from-residual .result) (c .from-residual .ensures .1) in
     rw (p .1, p .2)
     (λ ks h e same.
-        let f = c .args .file .now in
-        let count = counted f 2 ks (list-at f) listed _ same ∙ sym (c .standing .ensures) in
-        own-broke f _ at-top ks _ _ h 2 1 _ e refl count refl _ (c .in-Break-judged .ensures tt))
+    let f = c .args .file .now in
+    let count = counted f 2 ks (list-at f) listed _ same ∙ sym (c .standing .ensures) in
+    own-broke f _ at-top ks _ _ h 2 1 _ e refl count refl _ (c .in-Break-judged .ensures tt))
 
 pub returns-in-Break-read-list : need.returns-in-Break-read-list
 returns-in-Break-read-list c =
     let p = err-from-errBy (c .from-residual-in-Break-read-list .result) (c .from-residual-in-Break-read-list .ensures .1) in
     rw (p .1, p .2)
     (λ ks h e same.
-        let f = c .args .file .now in
-        let count = counted f 2 ks (list-at f) listed _ same ∙ sym (c .standing .ensures) in
-        let passed = own-passed f _ at-top ks _ _ h 2 1 _ e refl count refl _ (c .in-Continue-judged .ensures tt) in
-        below-broke f _ at-top ks _ _ h 2 1 _ e refl count refl (passed .0) _ (c .below .ensures) _ (c .in-Break-read-list .ensures tt _))
+    let f = c .args .file .now in
+    let count = counted f 2 ks (list-at f) listed _ same ∙ sym (c .standing .ensures) in
+    let passed = own-passed f _ at-top ks _ _ h 2 1 _ e refl count refl _ (c .in-Continue-judged .ensures tt) in
+    below-broke f _ at-top ks _ _ h 2 1 _ e refl count refl (passed .0) _ (c .below .ensures) _ (c .in-Break-read-list .ensures tt _))
 
 pub returns : need.returns
 returns c = λ ks h e same.

@@ -24,11 +24,11 @@ returns-in-Break-judged c =
     let p = err-from-errBy (c .from-residual .result) (c .from-residual .ensures .1) in
     record {
       answer = rw (p .1, p .2)
-        (λ ks h e same.
-            let f = c .args .file .now in
-            let g = step-group (kind (c .args .part .bytes .now)) e in
-            let count = ap (λ j. length (among f j ks)) (g .0) ∙ counted f 3 ks (step-at f) step-of _ same ∙ sym (c .len .ensures ∙ c .args .steps .now .ok .0) in
-            own-broke f _ at-top ks _ _ h _ 32 _ refl (ap (room at-top) (g .0)) count (g .1) _ (c .in-Break-judged .ensures tt));
+          (λ ks h e same.
+          let f = c .args .file .now in
+          let g = step-group (kind (c .args .part .bytes .now)) e in
+          let count = ap (λ j. length (among f j ks)) (g .0) ∙ counted f 3 ks (step-at f) step-of _ same ∙ sym (c .len .ensures ∙ c .args .steps .now .ok .0) in
+          own-broke f _ at-top ks _ _ h _ 32 _ refl (ap (room at-top) (g .0)) count (g .1) _ (c .in-Break-judged .ensures tt));
       room = search needs;
     }
 
@@ -37,12 +37,12 @@ returns-in-Break-step c =
     let p = err-from-errBy (c .from-residual-in-Break-step .result) (c .from-residual-in-Break-step .ensures .1) in
     record {
       answer = rw (p .1, p .2)
-        (λ ks h e same.
-            let f = c .args .file .now in
-            let g = step-group (kind (c .args .part .bytes .now)) e in
-            let count = ap (λ j. length (among f j ks)) (g .0) ∙ counted f 3 ks (step-at f) step-of _ same ∙ sym (c .len .ensures ∙ c .args .steps .now .ok .0) in
-            let passed = own-passed f _ at-top ks _ _ h _ 32 _ refl (ap (room at-top) (g .0)) count (g .1) _ (c .in-Continue-judged .ensures tt) in
-            below-broke f _ at-top ks _ _ h _ 32 _ refl (ap (room at-top) (g .0)) count (g .1) (passed .0) _ refl _ (c .in-Break-step .ensures tt ks h e (step-class _ (kind (c .args .part .bytes .now)) 32 _ _ _ e (passed .1))));
+          (λ ks h e same.
+          let f = c .args .file .now in
+          let g = step-group (kind (c .args .part .bytes .now)) e in
+          let count = ap (λ j. length (among f j ks)) (g .0) ∙ counted f 3 ks (step-at f) step-of _ same ∙ sym (c .len .ensures ∙ c .args .steps .now .ok .0) in
+          let passed = own-passed f _ at-top ks _ _ h _ 32 _ refl (ap (room at-top) (g .0)) count (g .1) _ (c .in-Continue-judged .ensures tt) in
+          below-broke f _ at-top ks _ _ h _ 32 _ refl (ap (room at-top) (g .0)) count (g .1) (passed .0) _ refl _ (c .in-Break-step .ensures tt ks h e (step-class _ (kind (c .args .part .bytes .now)) 32 _ _ _ e (passed .1))));
       room = search needs;
     }
 

@@ -21,10 +21,10 @@ returns-in-Break-judged c =
     let p = err-from-errBy (c .from-residual .result) (c .from-residual .ensures .1) in
     record {
       answer = rw (p .1, p .2)
-        (λ ks h e same.
-            let f = c .args .file .now in
-            let count = counted f 1 ks (list-at f) listed _ same ∙ sym (c .len .ensures ∙ c .args .terms .now .ok .0) in
-            own-broke f _ at-top ks _ _ h 1 256 _ e refl count refl _ (c .in-Break-judged .ensures tt));
+          (λ ks h e same.
+          let f = c .args .file .now in
+          let count = counted f 1 ks (list-at f) listed _ same ∙ sym (c .len .ensures ∙ c .args .terms .now .ok .0) in
+          own-broke f _ at-top ks _ _ h 1 256 _ e refl count refl _ (c .in-Break-judged .ensures tt));
       room = search needs;
     }
 
@@ -33,11 +33,11 @@ returns-in-Break-term c =
     let p = err-from-errBy (c .from-residual-in-Break-term .result) (c .from-residual-in-Break-term .ensures .1) in
     record {
       answer = rw (p .1, p .2)
-        (λ ks h e same.
-            let f = c .args .file .now in
-            let count = counted f 1 ks (list-at f) listed _ same ∙ sym (c .len .ensures ∙ c .args .terms .now .ok .0) in
-            let passed = own-passed f _ at-top ks _ _ h 1 256 _ e refl count refl _ (c .in-Continue-judged .ensures tt) in
-            below-broke f _ at-top ks _ _ h 1 256 _ e refl count refl (passed .0) _ (c .below .ensures) _ (c .in-Break-term .ensures tt _));
+          (λ ks h e same.
+          let f = c .args .file .now in
+          let count = counted f 1 ks (list-at f) listed _ same ∙ sym (c .len .ensures ∙ c .args .terms .now .ok .0) in
+          let passed = own-passed f _ at-top ks _ _ h 1 256 _ e refl count refl _ (c .in-Continue-judged .ensures tt) in
+          below-broke f _ at-top ks _ _ h 1 256 _ e refl count refl (passed .0) _ (c .below .ensures) _ (c .in-Break-term .ensures tt _));
       room = search needs;
     }
 

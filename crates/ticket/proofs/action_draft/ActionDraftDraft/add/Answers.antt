@@ -23,14 +23,14 @@ returns-in-Literal c = λ place ks h handed.
     let f = c .args .file .now in
     literal-added f _ place ks _ 32 _ _ (HoldsAction (listed (c .push-literal .last .list)) (map outcome-of (listed (c .args .self .now .outcomes))) f (c .args .n) place) _ (c .args .part) (c .in-Literal .part) handed (c .in-Literal .ensures tt) (ap (λ q. room q 5) (h .where-it-is)) (h .literals) (h .lawful) (c .push-literal .ensures .answer) (c .push-literal .ensures .items)
     (λ longer.
-        record {
-          where-it-is = h .where-it-is;
-          literals = longer .same;
-          lawful = longer .lawful;
-          same = h .same ∙ sym (gathers-same f ks _ 5 (longer .five) (outcome-at f) 6 refl);
-          each = h .each;
-          few = h .few;
-        })
+    record {
+      where-it-is = h .where-it-is;
+      literals = longer .same;
+      lawful = longer .lawful;
+      same = h .same ∙ sym (gathers-same f ks _ 5 (longer .five) (outcome-at f) 6 refl);
+      each = h .each;
+      few = h .few;
+    })
 
 pub returns-in-Outcome : need.returns-in-Outcome
 returns-in-Outcome c = λ place ks h handed.

@@ -8,8 +8,7 @@ pub returns : need.returns
 returns c =
     let file = c .args .self .now .file .now in
     let same = c .part-at-part .ensures .bytes in
-    let number = c .part-at-part .ensures .number in
-    (
+    let number = c .part-at-part .ensures .number in (
       record {
         some = omega arith;
         number = number;

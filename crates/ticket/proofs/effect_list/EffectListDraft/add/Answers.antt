@@ -31,17 +31,17 @@ returns-in-Break-effect c =
     let r = err-from-errBy (c .from-residual .result) (c .from-residual .ensures .1) in
     rw (r .1, r .2)
     (λ place earlier h handed above.
-        let f = c .args .file .now in
-        let p = c .args .part in
-        let q = c .in-Effect .part in
-        let shows = c .in-Effect .ensures tt in
-        let same = held-is (kind (p .bytes .now)) p _ shows in
-        let seven = ap (λ (x : Part). kind (x .bytes .now)) same ∙ kind-is (kind (p .bytes .now)) p _ shows (lit< tt) in
-        let own = subst (λ (x : Part). Handed f (x .number) x) (sym same) handed in
-        let slice = c .as-slice .ensures in
-        let broke = c .in-Break-effect .ensures tt earlier own seven (held-count _ _ place earlier _ _ h slice) (held-same _ _ place earlier _ _ h slice) (held-lawful _ _ place earlier _ _ h slice) above in
-        subst (λ w. Judged f (c .args .n) w above earlier (p .number) (Some (c .in-Break-effect .field-0 .0))) (sym (h .where-it-is))
-        (subst (λ (x : Part). Judged f (c .args .n) under-outcome above earlier (x .number) (Some (c .in-Break-effect .field-0 .0))) same broke))
+    let f = c .args .file .now in
+    let p = c .args .part in
+    let q = c .in-Effect .part in
+    let shows = c .in-Effect .ensures tt in
+    let same = held-is (kind (p .bytes .now)) p _ shows in
+    let seven = ap (λ (x : Part). kind (x .bytes .now)) same ∙ kind-is (kind (p .bytes .now)) p _ shows (lit< tt) in
+    let own = subst (λ (x : Part). Handed f (x .number) x) (sym same) handed in
+    let slice = c .as-slice .ensures in
+    let broke = c .in-Break-effect .ensures tt earlier own seven (held-count _ _ place earlier _ _ h slice) (held-same _ _ place earlier _ _ h slice) (held-lawful _ _ place earlier _ _ h slice) above in
+    subst (λ w. Judged f (c .args .n) w above earlier (p .number) (Some (c .in-Break-effect .field-0 .0))) (sym (h .where-it-is))
+    (subst (λ (x : Part). Judged f (c .args .n) under-outcome above earlier (x .number) (Some (c .in-Break-effect .field-0 .0))) same broke))
 
 pub returns : need.returns
 returns c = λ place earlier h handed.
@@ -57,8 +57,7 @@ returns c = λ place earlier h handed.
     let few : length (listed (c .args .self .now .effects)) < 4 = subst (λ m. m < 4) (length-map (c .as-slice .result .now) effect-of ∙ ap length slice) (read .room-left) in
     let pushed = c .push .ensures .items ∙ ap (λ b. cond b (listed (c .args .self .now .effects) ++ c .in-Continue-effect .effect ∷ []) (listed (c .args .self .now .effects))) (c .push .ensures .test ∙ lt-ltb _ 4 few) in
     let longer = ap (map effect-of) pushed ∙ map-append effect-of (listed (c .args .self .now .effects)) (c .in-Continue-effect .effect ∷ []) ∙ ap (λ l. map effect-of l ++ effect-of (c .in-Continue-effect .effect) ∷ []) (sym slice) in
-    let more = effects-more f (c .args .n) place earlier (q .number) _ _ _ (subst (λ l. HoldsEffects (map effect-of l) f (c .args .n) place earlier) (sym slice) h) read (ap kind (sym (own .bytes)) ∙ seven) longer in
-    (
+    let more = effects-more f (c .args .n) place earlier (q .number) _ _ _ (subst (λ l. HoldsEffects (map effect-of l) f (c .args .n) place earlier) (sym slice) h) read (ap kind (sym (own .bytes)) ∙ seven) longer in (
       subst (λ (x : Part). Sound f (c .args .n) place earlier (x .number)) same (subst (λ w. Sound f (c .args .n) w earlier (q .number)) (sym (h .where-it-is)) (read .sound)),
       subst (λ (x : Part). HoldsEffects (map effect-of (listed (c .push .last .self))) f (c .args .n) place (earlier ++ x .number ∷ [])) same more,
     )

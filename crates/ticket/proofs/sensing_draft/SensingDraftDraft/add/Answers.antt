@@ -23,13 +23,13 @@ returns-in-Literal c = λ place ks h handed.
     let f = c .args .-file .now in
     literal-added f _ place ks _ 32 _ _ (HoldsSensing (listed (c .push-literal .last .list)) (listOf (c .args .self .now .sensed)) f (c .args .n) place) _ (c .args .part) (c .in-Literal .part) handed (c .in-Literal .ensures tt) (ap (λ q. room q 5) (h .where-it-is)) (h .literals) (h .lawful) (c .push-literal .ensures .answer) (c .push-literal .ensures .items)
     (λ longer.
-        record {
-          where-it-is = h .where-it-is;
-          literals = longer .same;
-          lawful = longer .lawful;
-          same = h .same ∙ sym (gathers-same f ks _ 5 (longer .five) (literal-at f) 8 refl);
-          within = h .within;
-        })
+    record {
+      where-it-is = h .where-it-is;
+      literals = longer .same;
+      lawful = longer .lawful;
+      same = h .same ∙ sym (gathers-same f ks _ 5 (longer .five) (literal-at f) 8 refl);
+      within = h .within;
+    })
 
 pub returns-in-SensedLiteral : need.returns-in-SensedLiteral
 returns-in-SensedLiteral c = λ place ks h handed.

@@ -11,8 +11,7 @@ use Rattle.ticket.proofs.ticket.Ticket.read.Needs as need
 pub fill-requires : need.fill-requires
 fill-requires c κs =
     let head = c .in-Continue-head .ensures tt in
-    let good = head-good (c .args .file .now) (head .0) in
-    (
+    let good = head-good (c .args .file .now) (head .0) in (
       subst (λ k. inside (c .args .file .now) k ≡ true) (sym (head .2)) (good .top-inside),
       subst (λ n. n ≤ 32) (sym (head .1)) (good .few-conditions),
     )
@@ -20,8 +19,7 @@ fill-requires c κs =
 pub ghost-self-2 : need.ghost-self-2
 ghost-self-2 c =
     let head = c .in-Continue-head .ensures tt in
-    let n = c .in-Continue-head .head .conditions in
-    (
+    let n = c .in-Continue-head .head .conditions in (
       subst (λ d. lawful (ticket-with n d) ≡ true) (sym (c .swap .ensures .x-after)) (read-lawful _ _ _ _ _ _ (head .0) (head .1) (head .2) (c .in-Continue-fill .ensures tt)),
       tt,
     )
