@@ -26,7 +26,7 @@ same-tests false true there back = back refl
 same-tests false false there back = refl
 
 -- a test that cannot pass fails
-cannot-pass : (b : Bool) → (b ≡ true → ⊥) → b ≡ false
+pub cannot-pass : (b : Bool) → (b ≡ true → ⊥) → b ≡ false
 cannot-pass true never = absurd (never refl)
 cannot-pass false never = refl
 
@@ -38,7 +38,7 @@ not-not false = refl
 -- ## Some world passes a test exactly where there is such a world
 
 -- a world that passes shows that some world does
-some-world-from : (n : ℕ) (test : World n → Bool) (w : World n) → test w ≡ true → some-world n test ≡ true
+pub some-world-from : (n : ℕ) (test : World n → Bool) (w : World n) → test w ≡ true → some-world n test ≡ true
 some-world-from zero test w passes = passes
 some-world-from (suc n) test (true, w) passes =
     or-left _ _ (some-world-from n (λ v. test (true, v)) w passes)
@@ -76,7 +76,7 @@ opposite-turns a b h =
     subst (λ (k : Literal). same-literal k a ≡ true) (sym a-is) (same-literal-self a)
 
 -- a literal that speaks of a condition is not its own opposite
-opposite-differs : (n : ℕ) (l : Literal) → speaks-within n l ≡ true → same-literal (opposite l) l ≡ false
+pub opposite-differs : (n : ℕ) (l : Literal) → speaks-within n l ≡ true → same-literal (opposite l) l ≡ false
 opposite-differs n (pos zero) h = absurd (false≢true h)
 opposite-differs n (pos (suc p)) h = refl
 opposite-differs n (negsuc m) h = refl
@@ -118,7 +118,7 @@ meets-compatible n w (l ∷ ls) ks within met-ls met-ks =
 -- ## A world by a rule
 
 -- whether a literal is so by a rule
-abbrev says : (ℕ → Bool) → Literal → Bool
+abbrev pub says : (ℕ → Bool) → Literal → Bool
 says rule (pos p) = rule p
 says rule (negsuc m) = not (rule (suc m))
 
@@ -130,7 +130,7 @@ value-rest n b w m =
     cond-false (eqb (suc (suc m)) 1) b (value n w (suc (suc m) - 1)) other ∙ ap (value n w) before
 
 -- the world by a rule gives each condition 1 to n the rule's value
-value-by : (n : ℕ) (rule : ℕ → Bool) (m : ℕ) → suc m ≤ n → value n (world-by n rule) (suc m) ≡ rule (suc m)
+pub value-by : (n : ℕ) (rule : ℕ → Bool) (m : ℕ) → suc m ≤ n → value n (world-by n rule) (suc m) ≡ rule (suc m)
 value-by zero rule m h = absurd (omega arith)
 value-by (suc n) rule zero h = refl
 value-by (suc n) rule (suc m) h =
@@ -138,7 +138,7 @@ value-by (suc n) rule (suc m) h =
     value-rest n (rule 1) (world-by n rest) m ∙ value-by n rest m (omega arith)
 
 -- in the world by a rule a literal is so exactly where the rule says it
-holds-by : (n : ℕ) (rule : ℕ → Bool) (l : Literal) → speaks-within n l ≡ true → holds n (world-by n rule) l ≡ says rule l
+pub holds-by : (n : ℕ) (rule : ℕ → Bool) (l : Literal) → speaks-within n l ≡ true → holds n (world-by n rule) l ≡ says rule l
 holds-by n rule (pos zero) h = absurd (false≢true h)
 holds-by n rule (pos (suc p)) h =
     value-by n rule p (leb-true (suc p) n (and-parts (ltb 0 (suc p)) (leb (suc p) n) h .1))

@@ -1,1 +1,2 @@
 pub mod Compatible
+pub mod TakeHold

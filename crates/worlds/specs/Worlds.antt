@@ -1,6 +1,8 @@
 -- Worlds, literals and what it is for a world to meet a list of literals.
 use mathlib.Core.Bool.{Bool, true, false, not, _&&_, _||_, cond}
 use mathlib.Core.List.{List, [], _∷_}
+use mathlib.Core.Logic.{_⊎_}
+use mathlib.Core.Path.{_≡_}
 use Prim.Native.Nat.{ℕ, zero, suc, _-_}
 use lib.Dec.{eqb, leb, ltb}
 use lib.IntN.{ℤ, pos, negsuc, negℤ}
@@ -69,3 +71,8 @@ consistent (l ∷ ls) = not (has-literal (opposite l) ls) && consistent ls
 abbrev pub compatible : List Literal → List Literal → Bool
 compatible [] ks = true
 compatible (l ∷ ls) ks = not (has-literal (opposite l) ks) && compatible ls ks
+
+-- that a thing stands in a list
+abbrev pub In : {X : Type 0} → X → List X → Type 0
+In x [] = ⊥
+In x (y ∷ ys) = (x ≡ y) ⊎ In x ys
