@@ -1,11 +1,11 @@
 // Prints a ticket file in words, or `ticket R K`: the number of its fault and the record at fault.
 mod words;
 
+use records::refusal::Refusal;
 use std::alloc::Global;
 use std::env;
 use std::error::AnyError;
 use std::fs;
-use ticket::refusal::Refusal;
 use ticket::ticket::Ticket;
 use words::InWords;
 use words::InWordsDisplay;

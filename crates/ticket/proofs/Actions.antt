@@ -14,11 +14,11 @@ use Rattle.worlds.specs.Worlds.{Literal}
 use Rattle.worlds.specs.Steps.{Outcome, action}
 use Rattle.worlds.specs.Tickets.{every, lawful-outcome}
 use Rattle.worlds.proofs.Compatible.{every-snoc}
-use Rattle.ticket.specs.declared.refusal.Refusal.{Refusal}
-use Rattle.ticket.specs.Layout.{kind, part}
-use Rattle.ticket.specs.Content.{among, literal-at, outcome-at, action-from}
-use Rattle.ticket.specs.Judging.{Place, Judged, under-action, end-fault}
-use Rattle.ticket.specs.declared.refusal.Fault.the-variants.{Missing}
+use Rattle.records.specs.declared.refusal.Refusal.{Refusal}
+use Rattle.records.specs.Layout.{kind, part}
+use Rattle.records.specs.Content.{among, literal-at, outcome-at, action-from}
+use Rattle.records.specs.Judging.{Place, Judged, under-action, end-fault}
+use Rattle.records.specs.declared.refusal.Fault.the-variants.{Missing}
 use Rattle.ticket.specs.Drafts.{Added, Sound}
 use Rattle.ticket.specs.Gathers.{HoldsAction, AddsOutcome, StepRead}
 use Rattle.ticket.proofs.Records.{gathers-more, gathers-same, lawful-none}

@@ -15,18 +15,18 @@ use Rattle.worlds.specs.Worlds.{Literal, speaks-within}
 use Rattle.worlds.specs.Steps.{Effect, Outcome}
 use Rattle.worlds.specs.Tickets.{every, lawful-list, lawful-effect, clashes, apart}
 use Rattle.worlds.proofs.Compatible.{every-snoc, apart-snoc}
-use Rattle.ticket.specs.declared.part.Part.{Part}
-use Rattle.ticket.specs.declared.refusal.Refusal.{Refusal}
-use Rattle.ticket.specs.declared.refusal.Fault.the-variants.{Opposite}
-use Rattle.ticket.specs.Layout.{kind, value, below, part}
+use Rattle.records.specs.declared.part.Part.{Part}
+use Rattle.records.specs.declared.refusal.Refusal.{Refusal}
+use Rattle.records.specs.declared.refusal.Fault.the-variants.{Opposite}
+use Rattle.records.specs.Layout.{kind, value, below, part}
 use Rattle.worlds.specs.Meaning.{effect-of}
 use Rattle.worlds.specs.declared.step.Effect as code-effect
-use Rattle.ticket.specs.Content.{chain, among, literals-from, effect-at}
+use Rattle.records.specs.Content.{chain, among, literals-from, effect-at}
 use Rattle.ticket.specs.Chains.{Handed}
-use Rattle.ticket.specs.Conflicts.{conflicts}
-use Rattle.ticket.specs.Judging.{Place, Judged, ended, under-effect, end-fault, at-record}
+use Rattle.records.specs.Conflicts.{conflicts}
+use Rattle.records.specs.Judging.{Place, Judged, ended, under-effect, end-fault, at-record}
 use Rattle.ticket.specs.Gathers.{ListRead, HoldsEffects, EffectRead}
-use Rattle.ticket.proofs.Clashes.{conflicts-is}
+use Rattle.records.proofs.Clashes.{conflicts-is}
 use Rattle.ticket.proofs.Records.{Passes, among-more}
 
 module _ (f : List ℕ) (n : ℕ) (ks : List ℕ) (k : ℕ) (p : Part) (h : Handed f k p) (list : List Literal) (result : ℤ) (first : ℕ) (at : first ≡ below (p .bytes .now)) (read : ListRead 4 f n first list) (is : result ≡ value (p .bytes .now)) where

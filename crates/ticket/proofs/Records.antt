@@ -20,18 +20,18 @@ use Rattle.std.specs.declared.result.Result.the-variants.{Ok, Err}
 use Rattle.worlds.specs.Worlds.{Literal, opposite, has-literal, speaks-within, consistent}
 use Rattle.worlds.specs.Tickets.{every, lawful-list}
 use Rattle.worlds.proofs.Compatible.{every-snoc, consistent-snoc}
-use Rattle.ticket.specs.declared.part.Part.{Part}
-use Rattle.ticket.specs.declared.kinds.Record.{Record}
-use Rattle.ticket.specs.declared.kinds.Record.the-variants as shows
-use Rattle.ticket.specs.declared.refusal.Refusal.{Refusal}
-use Rattle.ticket.specs.declared.refusal.Fault.{Fault}
-use Rattle.ticket.specs.declared.refusal.Fault.the-variants.{Link, Kind, Value, Opposite, Limit, Missing}
-use Rattle.ticket.specs.Kinds.{shown}
-use Rattle.ticket.specs.Layout.{kind, value, below, part, links-good, group}
-use Rattle.ticket.specs.Content.{among, literals-among, literal-at}
+use Rattle.records.specs.declared.part.Part.{Part}
+use Rattle.records.specs.declared.kinds.Record.{Record}
+use Rattle.records.specs.declared.kinds.Record.the-variants as shows
+use Rattle.records.specs.declared.refusal.Refusal.{Refusal}
+use Rattle.records.specs.declared.refusal.Fault.{Fault}
+use Rattle.records.specs.declared.refusal.Fault.the-variants.{Link, Kind, Value, Opposite, Limit, Missing}
+use Rattle.records.specs.Kinds.{shown}
+use Rattle.records.specs.Layout.{kind, value, below, part, links-good, group}
+use Rattle.records.specs.Content.{among, literals-among, literal-at}
 use Rattle.ticket.specs.Chains.{Handed}
-use Rattle.ticket.specs.Judging.{Place, room, under, bare, class-good, value-good, fault-of, opposed, fault-as, record-fault, Judged, ended, faulty, faulty-below, under-literal, under-outcome, under-action, under-sensing, at-top}
-use Rattle.ticket.specs.Drafts.{Sound, Added, verdict}
+use Rattle.records.specs.Judging.{Place, room, under, bare, class-good, value-good, fault-of, opposed, fault-as, record-fault, Judged, ended, faulty, faulty-below, under-literal, under-outcome, under-action, under-sensing, at-top, verdict}
+use Rattle.ticket.specs.Drafts.{Sound, Added}
 
 -- the kind that a record is shown as (0: unknown), and its part
 abbrev pub tag : Record → ℕ

@@ -12,11 +12,11 @@ use Rattle.std.specs.declared.result.Result.the-variants.{Ok, Err}
 use Rattle.worlds.specs.Worlds.{Literal, speaks-within}
 use Rattle.worlds.specs.Steps.{sensing}
 use Rattle.worlds.specs.Tickets.{every}
-use Rattle.ticket.specs.declared.refusal.Refusal.{Refusal}
-use Rattle.ticket.specs.declared.refusal.Fault.the-variants.{Missing}
-use Rattle.ticket.specs.Layout.{kind, part}
-use Rattle.ticket.specs.Content.{among, literal-at, literals-among, sensing-from, first-literal}
-use Rattle.ticket.specs.Judging.{Place, Judged, under-sensing, end-fault}
+use Rattle.records.specs.declared.refusal.Refusal.{Refusal}
+use Rattle.records.specs.declared.refusal.Fault.the-variants.{Missing}
+use Rattle.records.specs.Layout.{kind, part}
+use Rattle.records.specs.Content.{among, literal-at, literals-among, sensing-from, first-literal}
+use Rattle.records.specs.Judging.{Place, Judged, under-sensing, end-fault}
 use Rattle.ticket.specs.Drafts.{Added, Sound}
 use Rattle.ticket.specs.Gathers.{HoldsSensing, AddsSensed, StepRead}
 use Rattle.ticket.proofs.Records.{gathers-more, gathers-same, lawful-none}

@@ -14,11 +14,11 @@ use Rattle.worlds.specs.Worlds.{Literal}
 use Rattle.worlds.specs.Steps.{Step}
 use Rattle.worlds.specs.Tickets.{every, lawful-list, lawful-step}
 use Rattle.worlds.proofs.Compatible.{every-snoc}
-use Rattle.ticket.specs.declared.refusal.Refusal.{Refusal}
-use Rattle.ticket.specs.Layout.{kind, part, group}
-use Rattle.ticket.specs.Content.{among, list-at, step-at}
-use Rattle.ticket.specs.Judging.{Place, Judged, at-top, end-fault}
-use Rattle.ticket.specs.declared.refusal.Fault.the-variants.{Missing}
+use Rattle.records.specs.declared.refusal.Refusal.{Refusal}
+use Rattle.records.specs.Layout.{kind, part, group}
+use Rattle.records.specs.Content.{among, list-at, step-at}
+use Rattle.records.specs.Judging.{Place, Judged, at-top, end-fault}
+use Rattle.records.specs.declared.refusal.Fault.the-variants.{Missing}
 use Rattle.ticket.specs.Drafts.{Added, Sound}
 use Rattle.ticket.specs.Gathers.{HoldsTop, AddsTop, TopAdded}
 use Rattle.ticket.proofs.Records.{gathers-more, gathers-same}

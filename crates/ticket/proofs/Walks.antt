@@ -11,11 +11,11 @@ use Rattle.std.proofs.shelf.Tests.{cases-bool, or-cases, and-parts, eqb-true, n
 use Rattle.std.proofs.shelf.Ways.{tells}
 use Rattle.std.specs.declared.option.Option.{Option}
 use Rattle.std.specs.declared.option.Option.the-variants.{Some, None}
-use Rattle.ticket.specs.declared.refusal.Refusal.{Refusal}
-use Rattle.ticket.specs.Layout.{part, next, below, inside, leads-on, links-good}
-use Rattle.ticket.specs.Content.{followed, chain}
-use Rattle.ticket.specs.Judging.{Place, Judged, onward, faulty}
-use Rattle.ticket.specs.declared.refusal.Fault.the-variants.{Link}
+use Rattle.records.specs.declared.refusal.Refusal.{Refusal}
+use Rattle.records.specs.Layout.{part, next, below, inside, leads-on, links-good}
+use Rattle.records.specs.Content.{followed, chain}
+use Rattle.records.specs.Judging.{Place, Judged, onward, faulty}
+use Rattle.records.specs.declared.refusal.Fault.the-variants.{Link}
 use Rattle.std.specs.declared.result.Result.the-variants.{Ok, Err}
 use Rattle.ticket.specs.Drafts.{Sound, Gathered}
 

@@ -12,10 +12,10 @@ use Rattle.std.specs.declared.option.Option.the-variants.{Some, None}
 use Rattle.worlds.specs.Worlds.{Literal}
 use Rattle.worlds.specs.Steps.{Step}
 use Rattle.worlds.specs.Tickets.{Ticket, every, lawful-list, lawful-step, lawful}
-use Rattle.ticket.specs.Layout.{conditions, top, inside}
-use Rattle.ticket.specs.Content.{chain, ticket-in, ticket-from, first-list}
-use Rattle.ticket.specs.Judging.{Judged, at-top}
-use Rattle.ticket.specs.Answers.{head-fault, Holds}
+use Rattle.records.specs.Layout.{conditions, top, inside}
+use Rattle.records.specs.Content.{chain, ticket-in, ticket-from, first-list}
+use Rattle.records.specs.Judging.{Judged, at-top}
+use Rattle.records.specs.Answers.{head-fault, Holds}
 use Rattle.ticket.specs.Gathers.{Filled}
 
 pub record HeadGood (f : List ℕ) : Type 0 where

@@ -7,10 +7,10 @@ use Rattle.std.specs.declared.option.Option.{Option}
 use Rattle.std.specs.declared.option.Option.the-variants.{Some, None}
 use Rattle.std.specs.declared.result.Result.{Result}
 use Rattle.std.specs.declared.result.Result.the-variants.{Ok, Err}
-use Rattle.ticket.specs.declared.part.Part.{Part}
-use Rattle.ticket.specs.declared.refusal.Refusal.{Refusal}
-use Rattle.ticket.specs.declared.refusal.Fault.the-variants.{Link}
-use Rattle.ticket.specs.Layout.{part, next, links-good}
+use Rattle.records.specs.declared.part.Part.{Part}
+use Rattle.records.specs.declared.refusal.Refusal.{Refusal}
+use Rattle.records.specs.declared.refusal.Fault.the-variants.{Link}
+use Rattle.records.specs.Layout.{part, next, links-good}
 
 -- a record k of the file f whose links are good is handed out, with the bytes that it covers
 pub record Handed (f : List ℕ) (k : ℕ) (p : Part) : Type 0 where

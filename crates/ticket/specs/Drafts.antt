@@ -6,11 +6,11 @@ use Rattle.std.specs.declared.option.Option.the-variants.{Some, None}
 use Rattle.std.specs.declared.result.Result.{Result}
 use Rattle.std.specs.declared.result.Result.the-variants.{Ok, Err}
 use Rattle.std.specs.declared.option.Option.{Option}
-use Rattle.ticket.specs.declared.refusal.Refusal.{Refusal}
-use Rattle.ticket.specs.declared.refusal.Fault.{Fault}
-use Rattle.ticket.specs.Layout.{part, kind, below}
-use Rattle.ticket.specs.Content.{chain}
-use Rattle.ticket.specs.Judging.{Place, Judged, record-fault, under}
+use Rattle.records.specs.declared.refusal.Refusal.{Refusal}
+use Rattle.records.specs.declared.refusal.Fault.{Fault}
+use Rattle.records.specs.Layout.{part, kind, below}
+use Rattle.records.specs.Content.{chain}
+use Rattle.records.specs.Judging.{Place, Judged, record-fault, under}
 
 -- neither record k nor anything under it is at fault
 pub record Sound (f : List ℕ) (n : ℕ) (place : Place) (earlier : List ℕ) (k : ℕ) : Type 0 where
@@ -29,11 +29,6 @@ abbrev pub Gathered : List ℕ → ℕ → Place → ℕ → (List ℕ → Type 
 Gathered f n place k is (Ok x) =
     is (chain f k) × ((above : ℕ) (v : Option Refusal) → Judged f n place above (chain f k) 0 v → Judged f n place above [] k v)
 Gathered f n place k is (Err r) = (above : ℕ) → Judged f n place above [] k (Some r)
-
--- the answer at record k where its own fault, if any, is this
-abbrev pub verdict : ℕ → Option Fault → Result (Unit {0}) Refusal
-verdict k None = Ok tt
-verdict k (Some x) = Err (record { fault = x; «record» = k })
 
 -- what reading the chain from record k into a value answers: the value is what the chain holds, as `is` says, and what is
 -- left to judge is the chain's end, or the first fault

@@ -13,9 +13,9 @@ use Rattle.worlds.specs.Steps.{Effect, Outcome, Step}
 use Rattle.worlds.specs.Tickets.{lawful-list, lawful-effect, lawful-outcome, lawful-step, clashes, every}
 use Rattle.worlds.specs.Meaning.{effect-of}
 use Rattle.worlds.specs.declared.step.Effect as code-effect
-use Rattle.ticket.specs.declared.refusal.Refusal.{Refusal}
-use Rattle.ticket.specs.Content.{chain, among, literals-among, literals-from, effect-at, outcome-at, literal-at, list-at, step-at}
-use Rattle.ticket.specs.Judging.{Place, room, under-outcome, under-action, under-sensing, at-top, Judged}
+use Rattle.records.specs.declared.refusal.Refusal.{Refusal}
+use Rattle.records.specs.Content.{chain, among, literals-among, literals-from, effect-at, outcome-at, literal-at, list-at, step-at}
+use Rattle.records.specs.Judging.{Place, room, under-outcome, under-action, under-sensing, at-top, Judged}
 use Rattle.ticket.specs.Drafts.{Sound}
 
 -- a chain at a place that takes up to so many literals and nothing else: the list has the literals of its records

@@ -7,7 +7,7 @@ use Rattle.worlds.specs.Worlds.{Literal}
 use Rattle.worlds.specs.Steps.{Step}
 use Rattle.worlds.specs.Meaning.{listed, step-of}
 use Rattle.worlds.specs.Tickets.{Ticket}
-use Rattle.ticket.specs.Content.{first-list}
+use Rattle.records.specs.Content.{first-list}
 use Rattle.ticket.specs.declared.contents.Contents.{Contents}
 
 abbrev pub terms-of : Contents → List (List Literal)

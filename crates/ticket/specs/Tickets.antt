@@ -6,8 +6,8 @@ use Rattle.std.specs.declared.result.Result.{Result}
 use Rattle.std.specs.declared.result.Result.the-variants.{Ok, Err}
 use Rattle.worlds.specs.Tickets.{Ticket}
 use Rattle.ticket.specs.declared.ticket.Ticket as code
-use Rattle.ticket.specs.declared.refusal.Refusal.{Refusal}
-use Rattle.ticket.specs.Answers.{Holds, Refused}
+use Rattle.records.specs.declared.refusal.Refusal.{Refusal}
+use Rattle.records.specs.Answers.{Holds, Refused}
 use Rattle.ticket.specs.Meaning.{ticket-with}
 
 abbrev pub ticket-of : code.Ticket → Ticket

@@ -3,13 +3,13 @@ ghost use mathlib.Core.Path.{_≡_};
 ghost use mathlib.Core.Bool.{true};
 ghost use mathlib.Core.List.{List, []};
 ghost use Prim.Native.Nat.{ℕ, _≤_};
-ghost use Rattle.ticket.specs.Layout.{inside, below};
+ghost use Rattle.records.specs.Layout.{inside, below};
 ghost use Rattle.ticket.specs.Chains.{Handed};
-ghost use Rattle.ticket.specs.Judging.{Place};
+ghost use Rattle.records.specs.Judging.{Place};
 ghost use Rattle.ticket.specs.Drafts.{Added, Gathered};
 use crate::chain_reader::ChainReader;
-use crate::part::Part;
-use crate::refusal::Refusal;
+use records::part::Part;
+use records::refusal::Refusal;
 
 pub(crate) trait Draft {
     // that the draft is just what these records of a chain at this place hold, in this file of n conditions

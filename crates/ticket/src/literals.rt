@@ -7,13 +7,12 @@ ghost use lib.ListN.{length};
 ghost use Rattle.std.specs.Results.{isOk};
 ghost use Rattle.worlds.specs.Meaning.{listed};
 ghost use Rattle.worlds.specs.Worlds.{has-literal, opposite};
-ghost use Rattle.ticket.specs.Layout.{kind, value};
-ghost use Rattle.ticket.specs.Judging.{fault-of};
-ghost use Rattle.ticket.specs.Drafts.{verdict};
-use crate::opposites::is_opposed;
-use crate::part::Part;
-use crate::refusal::Fault;
-use crate::refusal::Refusal;
+ghost use Rattle.records.specs.Layout.{kind, value};
+ghost use Rattle.records.specs.Judging.{fault-of, verdict};
+use records::opposites::is_opposed;
+use records::part::Part;
+use records::refusal::Fault;
+use records::refusal::Refusal;
 use worlds::few::Few;
 
 // Adds the literal of a record to the list of its chain, or says what is at fault with the record.

@@ -131,9 +131,10 @@ value-kept n o w (suc m) low high not-pos not-neg =
 pub effects-take-hold : Effects-take-hold
 effects-take-hold n o w lawful =
     let parts = and-parts (leb (length o) 4) (every (lawful-effect n) o && apart n o) lawful in
-    let both = and-parts (every (lawful-effect n) o) (apart n o) (parts .1) in
-    ( λ e in-e met. met-holds n o w e (both .0) (both .1) in-e met
-    , λ p low high silent.
-        value-kept n o w p low high
-        (not-brought n o w (pos p) (λ e in-e met. silent e in-e met .0))
-        (not-brought n o w (opposite (pos p)) (λ e in-e met. silent e in-e met .1)))
+    let both = and-parts (every (lawful-effect n) o) (apart n o) (parts .1) in (
+      λ e in-e met. met-holds n o w e (both .0) (both .1) in-e met,
+      λ p low high silent.
+          value-kept n o w p low high
+          (not-brought n o w (pos p) (λ e in-e met. silent e in-e met .0))
+          (not-brought n o w (opposite (pos p)) (λ e in-e met. silent e in-e met .1)),
+    )

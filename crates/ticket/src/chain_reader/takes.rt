@@ -2,12 +2,12 @@ ghost use mathlib.Core.Path.{_≡_};
 ghost use mathlib.Core.Bool.{true, _&&_};
 ghost use Prim.Native.Nat.{_+_, _*_, _≤_};
 ghost use lib.ListN.{length};
-ghost use Rattle.ticket.specs.Layout.{inside, leads-on, part, below, next};
+ghost use Rattle.records.specs.Layout.{inside, leads-on, part, below, next};
 ghost use Rattle.ticket.specs.Chains.{Takes};
 use crate::chain_reader::ChainReader;
-use crate::part::Part;
-use crate::refusal::Fault;
-use crate::refusal::Refusal;
+use records::part::Part;
+use records::refusal::Fault;
+use records::refusal::Refusal;
 
 // Whether a link of record `number` ends the chain or leads on to a later record of the file.
 fn leads_on(file: &[u8], number: u16, link: u16) -> bool

@@ -2,9 +2,9 @@ ghost use mathlib.Core.Path.{_≡_};
 ghost use Rattle.std.specs.Vec.{made};
 ghost use Rattle.ticket.specs.Tickets.{ticket-of, blank, ReadAs};
 use crate::contents::Contents;
-use crate::head::read_head;
-use crate::refusal::Refusal;
 use crate::ticket::Ticket;
+use records::head::read_head;
+use records::refusal::Refusal;
 use std::alloc::AllocError;
 use std::alloc::Global;
 

@@ -7,9 +7,9 @@ use Rattle.std.proofs.shelf.Lists.{map-append}
 use Rattle.std.proofs.shelf.Results.{err-from-errBy}
 use Rattle.std.proofs.shelf.Tests.{lt-ltb, leb-false}
 use Rattle.worlds.specs.Meaning.{listed, outcome-of}
-use Rattle.ticket.specs.Layout.{below}
-use Rattle.ticket.specs.Content.{chain, among, effect-at, outcome-at}
-use Rattle.ticket.specs.Judging.{under-action, ended}
+use Rattle.records.specs.Layout.{below}
+use Rattle.records.specs.Content.{chain, among, effect-at, outcome-at}
+use Rattle.records.specs.Judging.{under-action, ended}
 use Rattle.ticket.proofs.Records.{own-broke, own-passed, below-broke, below-sound, counted}
 use Rattle.ticket.proofs.action_draft.add_outcome.Needs as need
 

@@ -4,7 +4,7 @@ use Prim.Native.Nat.{ℕ, _<_}
 use native.Mathlib.Omega.{arith}
 use lib.ListN.{length, length-map}
 use Rattle.worlds.specs.Meaning.{listed, outcome-of}
-use Rattle.ticket.specs.Judging.{under-action, ended, at-record}
+use Rattle.records.specs.Judging.{under-action, ended, at-record}
 use Rattle.ticket.proofs.Actions.{holds-none, action-lacks, action-complete, action-read}
 use Rattle.ticket.proofs.action_draft.read_action.Needs as need
 

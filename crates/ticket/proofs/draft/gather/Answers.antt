@@ -5,7 +5,7 @@ use lib.ListN.{length}
 use Rattle.std.specs.declared.option.Option.the-variants.{Some, None}
 use Rattle.std.specs.declared.result.Result.the-variants.{Ok, Err}
 use Rattle.std.proofs.shelf.Results.{err-from-errBy}
-use Rattle.ticket.specs.Layout.{links-good, part, next}
+use Rattle.records.specs.Layout.{links-good, part, next}
 use Rattle.ticket.specs.Chains.{Takes, Handed}
 use Rattle.ticket.specs.Drafts.{Sound}
 use Rattle.ticket.proofs.Walks.{Walked, started, one-more, gathered, broken-link}

@@ -1,6 +1,6 @@
 use mathlib.Core.Path.{_≡_}
 use mathlib.Core.List.{[]}
-use Rattle.ticket.specs.Judging.{Place}
+use Rattle.records.specs.Judging.{Place}
 use Rattle.ticket.proofs.Walks.{Walked, left}
 use Rattle.ticket.proofs.draft.gather.Given as given
 

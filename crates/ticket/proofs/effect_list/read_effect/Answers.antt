@@ -11,7 +11,7 @@ use Rattle.std.proofs.shelf.Results.{err-from-errBy}
 use Rattle.std.proofs.shelf.Signed.{toZ-ofZ}
 use Rattle.std.proofs.shelf.Tests.{leb-false}
 use Rattle.worlds.specs.Meaning.{listed, effect-of}
-use Rattle.ticket.specs.Judging.{under-outcome, Judged}
+use Rattle.records.specs.Judging.{under-outcome, Judged}
 use Rattle.ticket.proofs.Records.{own-broke, own-passed, below-broke, below-sound}
 use Rattle.ticket.proofs.Effects.{effect-is, effect-lawful, clash-is, ends}
 use Rattle.ticket.proofs.effect_list.read_effect.Needs as need

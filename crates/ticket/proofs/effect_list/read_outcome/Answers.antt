@@ -2,8 +2,8 @@ use mathlib.Core.Path.{_≡_, refl, sym, ap, subst, _∙_}
 use mathlib.Core.List.{map}
 use Rattle.worlds.specs.Meaning.{effect-of}
 use Rattle.worlds.specs.Tickets.{lawful-outcome}
-use Rattle.ticket.specs.Content.{effect-at}
-use Rattle.ticket.specs.Judging.{under-outcome}
+use Rattle.records.specs.Content.{effect-at}
+use Rattle.records.specs.Judging.{under-outcome}
 use Rattle.ticket.proofs.effect_list.read_outcome.Needs as need
 
 pub returns : need.returns

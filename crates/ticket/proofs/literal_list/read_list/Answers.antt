@@ -1,6 +1,6 @@
 use mathlib.Core.Path.{refl}
 use Rattle.ticket.proofs.Records.{lawful-none}
-use Rattle.ticket.specs.Judging.{under-list}
+use Rattle.records.specs.Judging.{under-list}
 use Rattle.ticket.proofs.literal_list.read_list.Needs as need
 
 pub returns : need.returns

@@ -9,9 +9,9 @@ use borrow.Author.Needs.{needs}
 use Rattle.std.proofs.shelf.Results.{err-from-errBy}
 use Rattle.std.proofs.shelf.Signed.{toZ-ofZ}
 use Rattle.std.proofs.shelf.Tests.{leb-false}
-use Rattle.ticket.specs.Layout.{value, kind, part}
-use Rattle.ticket.specs.Content.{among, literal-at}
-use Rattle.ticket.specs.Judging.{under-sensing}
+use Rattle.records.specs.Layout.{value, kind, part}
+use Rattle.records.specs.Content.{among, literal-at}
+use Rattle.records.specs.Judging.{under-sensing}
 use Rattle.ticket.proofs.Records.{own-broke, own-passed, bare-sound, Passes, nil-from-length}
 use Rattle.ticket.proofs.sensing_draft.add_sensed.Needs as need
 

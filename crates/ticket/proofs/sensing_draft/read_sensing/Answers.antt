@@ -6,7 +6,7 @@ use mir.Val.{SFits}
 use borrow.Author.Needs.{needs}
 use Rattle.std.proofs.shelf.Signed.{toZ-ofZ}
 use Rattle.std.specs.Vec.{listOf}
-use Rattle.ticket.specs.Judging.{under-sensing, ended, at-record}
+use Rattle.records.specs.Judging.{under-sensing, ended, at-record}
 use Rattle.ticket.proofs.Sensings.{holds-none, sensing-lacks, sensing-complete, sensing-read}
 use Rattle.ticket.proofs.sensing_draft.read_sensing.Needs as need
 

@@ -8,9 +8,9 @@ use Rattle.std.proofs.shelf.Results.{err-from-errBy}
 use Rattle.std.proofs.shelf.Tests.{leb-false}
 use Rattle.worlds.specs.Meaning.{listed}
 use Rattle.worlds.specs.Tickets.{lawful-list}
-use Rattle.ticket.specs.Layout.{below}
-use Rattle.ticket.specs.Content.{list-at, literals-from}
-use Rattle.ticket.specs.Judging.{at-top, ended}
+use Rattle.records.specs.Layout.{below}
+use Rattle.records.specs.Content.{list-at, literals-from}
+use Rattle.records.specs.Judging.{at-top, ended}
 use Rattle.ticket.proofs.Records.{own-broke, own-passed, below-broke, below-sound, counted, nil-from-length}
 use Rattle.ticket.proofs.top.add_aim.Needs as need
 

@@ -13,9 +13,9 @@ use Rattle.std.proofs.shelf.Tests.{leb-false, eqb-true}
 use Rattle.std.proofs.shelf.Ways.{tells}
 use Rattle.worlds.specs.Meaning.{step-of}
 use Rattle.worlds.specs.Tickets.{lawful-step}
-use Rattle.ticket.specs.Layout.{kind, group}
-use Rattle.ticket.specs.Content.{among, step-at}
-use Rattle.ticket.specs.Judging.{at-top, room}
+use Rattle.records.specs.Layout.{kind, group}
+use Rattle.records.specs.Content.{among, step-at}
+use Rattle.records.specs.Judging.{at-top, room}
 use Rattle.ticket.proofs.Records.{own-broke, own-passed, below-broke, below-sound, counted, step-group, step-class}
 use Rattle.ticket.proofs.top.add_step.Needs as need
 

@@ -3,10 +3,10 @@ use mathlib.Core.List.{List, [], _∷_, _++_, map}
 use Prim.Native.Nat.{ℕ}
 use lib.Dec.{lit<}
 use Rattle.worlds.specs.Meaning.{listed, outcome-of}
-use Rattle.ticket.specs.Kinds.{shown}
-use Rattle.ticket.specs.Layout.{kind, group}
-use Rattle.ticket.specs.Content.{outcome-at}
-use Rattle.ticket.specs.Judging.{room}
+use Rattle.records.specs.Kinds.{shown}
+use Rattle.records.specs.Layout.{kind, group}
+use Rattle.records.specs.Content.{outcome-at}
+use Rattle.records.specs.Judging.{room}
 use Rattle.ticket.specs.Gathers.{HoldsAction}
 use Rattle.ticket.proofs.Records.{wrong-kind, no-room-action, literal-added, inner, added-there, gathers-same}
 use Rattle.ticket.proofs.Actions.{outcome-added}

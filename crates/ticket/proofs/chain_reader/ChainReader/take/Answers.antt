@@ -1,7 +1,7 @@
 use mathlib.Core.Path.{_≡_, refl, sym, ap, _∙_}
 use mathlib.Core.Bool.{true, _&&_}
 use native.Mathlib.Omega.{arith}
-use Rattle.ticket.specs.Layout.{next, below, leads-on}
+use Rattle.records.specs.Layout.{next, below, leads-on}
 use Rattle.ticket.proofs.chain_reader.ChainReader.take.Needs as need
 
 pub returns : need.returns

@@ -1,7 +1,7 @@
 use mathlib.Core.Path.{refl, ap, _∙_}
 use native.Mathlib.Omega.{arith}
 use lib.Seq.{take-take}
-use Rattle.ticket.specs.Layout.{part}
+use Rattle.records.specs.Layout.{part}
 use Rattle.ticket.proofs.chain_reader.takes.part_at.Needs as need
 
 pub returns : need.returns

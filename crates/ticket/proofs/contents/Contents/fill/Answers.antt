@@ -9,7 +9,7 @@ use Rattle.std.specs.Vec.{listOf}
 use Rattle.std.proofs.shelf.Tests.{or-parts, eqb-false}
 use Rattle.worlds.specs.Meaning.{listed}
 use Rattle.ticket.specs.declared.contents.Contents.{Contents}
-use Rattle.ticket.specs.Judging.{at-top, ended, at-record}
+use Rattle.records.specs.Judging.{at-top, ended, at-record}
 use Rattle.ticket.specs.Meaning.{terms-of, aims-of}
 use Rattle.ticket.proofs.Tops.{holds-none, top-ends}
 use Rattle.ticket.proofs.contents.Contents.fill.Needs as need

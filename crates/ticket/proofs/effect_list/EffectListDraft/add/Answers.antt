@@ -9,11 +9,11 @@ use Rattle.std.proofs.shelf.Lists.{map-append}
 use Rattle.std.proofs.shelf.Results.{err-from-errBy}
 use Rattle.std.proofs.shelf.Tests.{lt-ltb}
 use Rattle.worlds.specs.Meaning.{listed, effect-of}
-use Rattle.ticket.specs.declared.part.Part.{Part}
-use Rattle.ticket.specs.Kinds.{shown}
-use Rattle.ticket.specs.Layout.{kind, group, part}
+use Rattle.records.specs.declared.part.Part.{Part}
+use Rattle.records.specs.Kinds.{shown}
+use Rattle.records.specs.Layout.{kind, group, part}
 use Rattle.ticket.specs.Chains.{Handed}
-use Rattle.ticket.specs.Judging.{room, Judged, under-outcome}
+use Rattle.records.specs.Judging.{room, Judged, under-outcome}
 use Rattle.ticket.specs.Drafts.{Sound}
 use Rattle.ticket.specs.Gathers.{HoldsEffects}
 use Rattle.ticket.proofs.Records.{wrong-kind, no-room-outcome, held-is, kind-is}

@@ -3,10 +3,10 @@ use mathlib.Core.List.{List, [], _∷_, _++_, map}
 use lib.Dec.{lit<}
 use Rattle.std.specs.Vec.{listOf}
 use Rattle.worlds.specs.Meaning.{listed}
-use Rattle.ticket.specs.Kinds.{shown}
-use Rattle.ticket.specs.Layout.{kind, group}
-use Rattle.ticket.specs.Content.{literal-at}
-use Rattle.ticket.specs.Judging.{room}
+use Rattle.records.specs.Kinds.{shown}
+use Rattle.records.specs.Layout.{kind, group}
+use Rattle.records.specs.Content.{literal-at}
+use Rattle.records.specs.Judging.{room}
 use Rattle.ticket.specs.Gathers.{HoldsSensing}
 use Rattle.ticket.proofs.Records.{wrong-kind, no-room-sensing, literal-added, inner, added-there, gathers-same}
 use Rattle.ticket.proofs.Sensings.{sensed-added}

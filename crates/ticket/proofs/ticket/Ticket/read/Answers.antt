@@ -2,8 +2,8 @@ use mathlib.Core.Path.{_≡_, refl, sym, ap, subst, _∙_}
 use mathlib.Core.Bool.{true}
 use Prim.Native.Nat.{_≤_}
 use Rattle.worlds.specs.Tickets.{lawful}
-use Rattle.ticket.specs.Layout.{inside}
-use Rattle.ticket.specs.Answers.{Holds}
+use Rattle.records.specs.Layout.{inside}
+use Rattle.records.specs.Answers.{Holds}
 use Rattle.ticket.specs.Meaning.{ticket-with}
 use Rattle.ticket.proofs.WholeFile.{head-good, read-lawful, read-holds}
 use Rattle.ticket.proofs.ticket.Ticket.read.Needs as need

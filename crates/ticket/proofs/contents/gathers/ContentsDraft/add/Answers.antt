@@ -5,9 +5,9 @@ use lib.Dec.{eqb, lit<}
 use Rattle.std.specs.Of.Vec.{vec-items}
 use Rattle.std.specs.Vec.{listOf}
 use Rattle.worlds.specs.Meaning.{listed, step-of}
-use Rattle.ticket.specs.Kinds.{shown}
-use Rattle.ticket.specs.Layout.{kind, group}
-use Rattle.ticket.specs.Judging.{room}
+use Rattle.records.specs.Kinds.{shown}
+use Rattle.records.specs.Layout.{kind, group}
+use Rattle.records.specs.Judging.{room}
 use Rattle.ticket.specs.Gathers.{HoldsTop}
 use Rattle.ticket.specs.Meaning.{terms-of, aims-of, steps-of}
 use Rattle.ticket.proofs.Records.{wrong-kind, no-room-top, inner, added-there}
