@@ -2,5 +2,6 @@
 pub mod Worlds
 pub mod Steps
 pub mod Tickets
+pub mod Sets
 pub mod Meaning
 pub mod Laws
