@@ -37,9 +37,9 @@ may-give n (o ∷ os) w v = same-world n (after n o w) v || may-give n os w v
 abbrev pub successor : (n : ℕ) → List Outcome → Worlds n → Worlds n
 successor n os s = λ v. some-world n (λ w. s w && may-give n os w v)
 
--- the worlds of a set in which a literal is so (yes), or is not so
+-- the worlds of a set in which a literal is so (true), or is not so (false)
 abbrev pub side : (n : ℕ) → Literal → Bool → Worlds n → Worlds n
-side n l yes s = λ w. s w && same-value yes (holds n w l)
+side n l so s = λ w. s w && same-value so (holds n w l)
 
 -- whether two sets have the same worlds
 abbrev pub same-set : (n : ℕ) → Worlds n → Worlds n → Bool
