@@ -1,0 +1,3 @@
+pub mod bank;
+pub mod fault;
+pub mod known;
