@@ -15,6 +15,7 @@ use Rattle.records.specs.declared.head.Head.{Head}
 use Rattle.records.specs.declared.refusal.Refusal.{Refusal}
 use Rattle.records.specs.declared.refusal.Fault.{Fault}
 use Rattle.records.specs.declared.refusal.Fault.the-variants.{Length, Mark, Conditions, Link}
+use Rattle.records.specs.Refusals.{number-of}
 use Rattle.records.specs.Layout.{mark, conditions, top, inside}
 use Rattle.records.specs.Content.{ticket-in}
 use Rattle.records.specs.Judging.{Judged, at-top, at-record}
@@ -47,6 +48,10 @@ pub record Holds (f : List ℕ) (t : Ticket) : Type 0 where
 -- the file is refused: record 0 is at fault, or a record of its chains is and nothing judged before it
 abbrev pub Refused : List ℕ → Refusal → Type 0
 Refused f r = (at-record 0 (head-fault f) ≡ Some r) ⊎ ((head-fault f ≡ None) × Judged f (conditions f) at-top 0 [] (top f) (Some r))
+
+-- the file is refused with the number r at record k
+abbrev pub Refused-with : List ℕ → ℕ → ℕ → Type 0
+Refused-with f r k = (x : Fault) × (r ≡ number-of x) × Refused f (record { fault = x; «record» = k })
 
 -- what reading record 0 answers: its two words, or its first fault
 abbrev pub ReadsHead : List ℕ → Result Head Refusal → Type 0

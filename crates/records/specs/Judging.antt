@@ -67,11 +67,11 @@ bare kd = eqb kd 5 || eqb kd 8
 
 -- the fault of a record r of kind kd, in a chain with room for so many of its group, of which so many stand before it
 abbrev pub fault-of : ℕ → ℕ → ℕ → ℕ → Bool → List ℕ → Option Fault
-fault-of n kd most standing over r =
+fault-of n kd most standing contradicted r =
     cond (leb most 0 || (bare kd && not (eqb (below r) 0))) (Some Kind)
     (cond (leb most standing) (Some Limit)
     (cond (not (value-good n kd (value r))) (Some Value)
-    (cond over (Some Opposite) None)))
+    (cond contradicted (Some Opposite) None)))
 
 -- whether r is a literal whose opposite is among the literals before it in its chain
 abbrev pub opposed : List ℕ → List ℕ → ℕ → List ℕ → Bool

@@ -2,6 +2,7 @@
 ghost use mathlib.Core.Path.{_≡_};
 ghost use mathlib.Core.Bool.{true};
 ghost use lib.IntN.{natAbs};
+ghost use lib.ListN.{getD};
 ghost use Rattle.records.specs.Judging.{class-good};
 ghost use Rattle.records.specs.Layout.{kind, value, below, next};
 use crate::refusal::Fault;
@@ -30,7 +31,8 @@ impl Part<'_> {
 
     // The class of a step: its value, which has only a low byte where it is 0 to 255.
     pub fn class(&self) -> u8
-        ensures { λ r. ⌜ (class-good (value (now (now (self .entry) .bytes))) ≡ true → r ≡ natAbs (value (now (now (self .entry) .bytes)))) ⌝ }
+        ensures byte { λ r. ⌜ r ≡ getD (now (now (self .entry) .bytes)) 2 0 ⌝ }
+        ensures value { λ r. ⌜ (class-good (value (now (now (self .entry) .bytes))) ≡ true → r ≡ natAbs (value (now (now (self .entry) .bytes)))) ⌝ }
     {
         self.bytes[2]
     }

@@ -4,8 +4,7 @@ use mathlib.Core.Bool.{Bool, true, false, not, _&&_, _||_, cond}
 use mathlib.Core.List.{List, [], _∷_}
 use Prim.Native.Nat.{ℕ, zero, suc}
 use Rattle.worlds.specs.Worlds.{World, Literal, holds, meets, some-world}
-use Rattle.worlds.specs.Steps.{Outcome, Step, after}
-use Rattle.worlds.specs.Tickets.{Ticket}
+use Rattle.worlds.specs.Steps.{Outcome, after}
 
 -- a set of worlds of n conditions: a belief set
 abbrev pub Worlds : ℕ → Type 0
