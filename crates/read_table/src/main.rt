@@ -41,7 +41,9 @@ fn answer(rt: &LibcRuntime, ticket: &mut Ticket, line: &str) -> Result<(), AnyEr
     match ticket.read(bytes.as_slice()) {
         Ok(()) => {
             let n = ticket.conditions();
-            println!(rt, "{name} conditions {n}")?;
+            let terms = ticket.terms().len();
+            let steps = ticket.steps().len();
+            println!(rt, "{name} conditions {n} terms {terms} steps {steps}")?;
         }
         Err(refusal) => {
             let fault = refusal.fault.number();
