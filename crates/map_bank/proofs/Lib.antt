@@ -1,0 +1,4 @@
+pub mod BitLaws
+pub mod NumberLaws
+pub mod TruthTable
+pub mod WordLaws
