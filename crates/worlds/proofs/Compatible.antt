@@ -46,7 +46,7 @@ some-world-from (suc n) test (false, w) passes =
     or-right _ _ (some-world-from n (λ v. test (false, v)) w passes)
 
 -- where some world passes, this is one
-the-world : (n : ℕ) (test : World n → Bool) → some-world n test ≡ true → (w : World n) × (test w ≡ true)
+pub the-world : (n : ℕ) (test : World n → Bool) → some-world n test ≡ true → (w : World n) × (test w ≡ true)
 the-world zero test some = (tt, some)
 the-world (suc n) test some =
     elim (or-cases (some-world n (λ w. test (true, w))) (some-world n (λ w. test (false, w))) some) [
