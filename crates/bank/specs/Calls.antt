@@ -1,7 +1,7 @@
 -- What each call of a bank answers, and what the bank means afterwards.
 use mathlib.Core.Bool.{Bool, true, false, not, _&&_, cond}
 use mathlib.Core.List.{List, [], _∷_, _++_}
-use Prim.Native.Nat.{ℕ, suc, _-_}
+use Prim.Native.Nat.{ℕ, suc}
 use lib.Dec.{eqb, leb, ltb}
 use lib.ListN.{length, getD, take}
 use Rattle.std.specs.declared.option.Option.{Option}
@@ -11,7 +11,7 @@ use Rattle.std.specs.declared.result.Result.the-variants.{Ok, Err}
 use Rattle.worlds.specs.Worlds.{World, Literal, speaks-within}
 use Rattle.worlds.specs.Steps.{Outcome, Step, action, sensing}
 use Rattle.worlds.specs.Sets.{Worlds, none-in, all-meet, successor, side, same-set}
-use Rattle.worlds.specs.Tickets.{Ticket, every, starts}
+use Rattle.worlds.specs.Tickets.{Ticket, every, starts, step-at}
 use Rattle.bank.specs.declared.fault.BankFault.{BankFault}
 use Rattle.bank.specs.declared.fault.BankFault.the-variants.{Conditions, NoSet, Full, Wide, EmptySide, WrongStep}
 use Rattle.bank.specs.Meaning as bank
@@ -46,11 +46,6 @@ place-of n (t ∷ ts) s = cond (same-set n t s) 0 (suc (place-of n ts s))
 
 abbrev pub is-held : (n : ℕ) → List (Worlds n) → Worlds n → Bool
 is-held n held s = ltb (place-of n held s) (length held)
-
--- the step of a number
-abbrev pub step-at : List Step → ℕ → Option Step
-step-at [] k = None
-step-at (s ∷ ss) k = cond (eqb k 0) (Some s) (step-at ss (k - 1))
 
 -- the outcomes of an action, and the literal of a sensing step
 abbrev pub outcomes-of : Option Step → Option (List Outcome)

@@ -1,9 +1,11 @@
 -- A ticket as a value, and what every ticket keeps.
 use mathlib.Core.Bool.{Bool, true, false, not, _&&_, _||_}
 use mathlib.Core.List.{List, [], _∷_}
-use Prim.Native.Nat.{ℕ}
+use Prim.Native.Nat.{ℕ, zero, suc}
 use lib.Dec.{leb, ltb}
 use lib.ListN.{length}
+use Rattle.std.specs.declared.option.Option.{Option}
+use Rattle.std.specs.declared.option.Option.the-variants.{Some, None}
 use Rattle.worlds.specs.Worlds.{World, Literal, opposite, meets, some-world, speaks-within, same-literal, consistent}
 use Rattle.worlds.specs.Steps.{Effect, Outcome, Step, action, sensing}
 
@@ -13,6 +15,12 @@ pub record Ticket : Type 0 where
   pub terms : List (List Literal)
   pub aim : List Literal
   pub steps : List Step
+
+-- the step of a number, if there is one; steps are numbered from 0
+abbrev pub step-at : List Step → ℕ → Option Step
+step-at [] k = None
+step-at (x ∷ xs) zero = Some x
+step-at (x ∷ xs) (suc k) = step-at xs k
 
 -- whether a world meets at least one of some lists
 abbrev pub meets-some : (n : ℕ) → World n → List (List Literal) → Bool

@@ -40,8 +40,7 @@ returns-in-Break-fill c =
     let head = c .in-Continue-head .ensures tt in
     let p = err-from-errBy (c .from-residual-in-Break-fill .result) (c .from-residual-in-Break-fill .ensures .1) in
     let r = c .in-Break-fill .field-0 .0 in
-    rw (p .1, p .2)
-    (
+    rw (p .1, p .2) (
       (r .fault, refl, inr (head .0, subst (λ m. Judged (c .args .file .now) m at-top 0 [] (top (c .args .file .now)) (Some r)) (head .1) (subst (λ k. Judged (c .args .file .now) (c .in-Continue-head .head .conditions) at-top 0 [] k (Some r)) (head .2) (c .in-Break-fill .ensures tt)))),
       refl,
     )
