@@ -16,7 +16,7 @@ impl Tally for Hazard as HazardTally {
     ghost add = { λ s rest. larger (class-of s) rest };
 
     fn nothing() -> u16 {
-        0
+        u16::MIN
     }
 
     fn at_most(a: u16, b: u16) -> bool {

@@ -16,7 +16,7 @@ impl Tally for Steps as StepsTally {
     ghost add = { λ _ rest. one-more rest };
 
     fn nothing() -> u16 {
-        0
+        u16::MIN
     }
 
     fn at_most(a: u16, b: u16) -> bool {
