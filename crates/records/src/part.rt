@@ -60,3 +60,20 @@ impl Part<'_> {
         }
     }
 }
+
+#[cfg(test)]
+mod tests {
+    use super::*;
+    use std::test::*;
+
+    #[test]
+    fn minus_five_stays_minus_five() -> Result<(), Fail> {
+        let part = Part {
+            number: 1,
+            bytes: &[5, 0, 0xfb, 0xff, 0, 0, 2, 1],
+        };
+        check_eq(part.kind(), 5)?;
+        check_eq(part.value(), -5)?;
+        check_eq(part.next(), 258).note("the low byte comes first")
+    }
+}

@@ -44,3 +44,18 @@ impl<T: Copy, const N: usize> Few<T, N> {
         true
     }
 }
+
+#[cfg(test)]
+mod tests {
+    use super::*;
+    use std::test::*;
+
+    #[test]
+    fn a_full_list_takes_no_more() -> Result<(), Fail> {
+        let mut list: Few<i16, 2> = Few::none(0);
+        check(list.push(5))?;
+        check(list.push(-5))?;
+        check(!list.push(1)).note("two is all that it can hold")?;
+        check_eq(list.len(), 2)
+    }
+}
