@@ -72,11 +72,19 @@ fn show_ticket(rt: &LibcRuntime, ticket: &Ticket) -> Result<(), AnyError> {
     Ok(())
 }
 
+// Reads the whole file, or says which file cannot be read, and why.
+fn read_file(rt: &LibcRuntime, path: &str) -> Result<Vec<u8>, AnyError> {
+    match fs::read(rt, path) {
+        Ok(file) => Ok(file),
+        Err(e) => Err(format!(rt.alloc(), "cannot read {path}: {e}")?.into()),
+    }
+}
+
 fn run(rt: &LibcRuntime) -> Result<(), AnyError> {
     let Some(path) = env::args(rt)?.nth(1) else {
         return Err("usage: show FILE".into());
     };
-    let file = fs::read(rt, path.as_str())?;
+    let file = read_file(rt, path.as_str())?;
     let mut ticket = Ticket::new(rt.alloc())?;
     match ticket.read(file.as_slice()) {
         Ok(()) => show_ticket(rt, &ticket),
@@ -85,5 +93,11 @@ fn run(rt: &LibcRuntime) -> Result<(), AnyError> {
 }
 
 fn main(rt: LibcRuntime) -> Result<(), AnyError> {
-    rt.report(run(&rt))
+    match run(&rt) {
+        Ok(()) => Ok(()),
+        Err(e) => {
+            eprintln!(rt, "show: {e}")?;
+            Err(e)
+        }
+    }
 }
