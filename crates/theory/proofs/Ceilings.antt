@@ -50,5 +50,6 @@ module _ {T : Type 0} (le : T → T → Bool) (nothing : T) (add : Step → T �
       (sym (taken .of-ticket))
       (ap₂ (λ a b. add x (larger le a b)) yes-total no-total)
 
+  -- both together
   pub ceiling-is-reached : Ceiling-is-reached le nothing add
   ceiling-is-reached t worked s p = (reaches t worked p, same-total t worked _ p)

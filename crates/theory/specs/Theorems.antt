@@ -52,6 +52,11 @@ module _ {T : Type 0} (le : T → T → Bool) (nothing : T) (add : Step → T �
       Floor le nothing add t worked s b → Ceiling le nothing add t worked s c →
       ((l : Belief t) → Lead le nothing add t worked s l → ⊥) ↔ (b ≡ c)
 
+  -- every lead from a set of a closed collection is in the collection
+  abbrev pub Leads-are-held : Type 0
+  Leads-are-held = (t : Ticket) (worked held : Belief t → Bool) → Closed t worked held →
+      (s l : Belief t) → held s ≡ true → Lead le nothing add t worked s l → held l ≡ true
+
   -- where floor and ceiling agree, they are the least total of all procedures that surely reach the aim
   abbrev pub Agreed-is-best : Type 0
   Agreed-is-best = (t : Ticket) (worked : Belief t → Bool) (s : Belief t) (b : Option T) →
