@@ -1,6 +1,6 @@
 -- There is no lead exactly when floor and ceiling agree; what they agree on is the least total.
 -- Assumes nothing.
-use mathlib.Core.Path.{_≡_, refl, sym, _∙_, ap, subst}
+use mathlib.Core.Path.{_≡_, refl, sym, _∙_, subst}
 use mathlib.Core.Bool.{Bool, true, false, not, _||_}
 use mathlib.Core.List.{[], _∷_}
 use mathlib.Core.Logic.{_⊎_, inl, inr}
@@ -11,10 +11,10 @@ use Rattle.std.proofs.shelf.Tests.{both-ways, cases-bool, not-true, not-from-fa
 use Rattle.worlds.specs.Worlds.{In}
 use Rattle.worlds.specs.Steps.{Step, action, sensing}
 use Rattle.worlds.specs.Tickets.{Ticket}
-use Rattle.worlds.specs.Sets.{Worlds, successor, side}
+use Rattle.worlds.specs.Sets.{successor, side}
 use Rattle.tally.specs.Laws.{Laws}
-use Rattle.theory.specs.Procedures.{Belief, Procedure, Surely, larger, total}
-use Rattle.theory.specs.Bounds.{Way, end, by-action, by-sensing, as-procedure, way-total, Ceiling-way, Floor-way, Floor, Ceiling, aim-set, following, Open-step, bound-le, Joined, there, onward, Lead, Closed, Have-bounds}
+use Rattle.theory.specs.Procedures.{Belief}
+use Rattle.theory.specs.Bounds.{end, by-action, by-sensing, as-procedure, way-total, Ceiling-way, Floor-way, Floor, Ceiling, aim-set, following, Open-step, Joined, there, onward, Lead, Closed, Have-bounds}
 use Rattle.theory.specs.Theorems.{No-lead-exactly-when-agreed, Leads-are-held, Agreed-is-best, Agreed-on-none}
 use Rattle.theory.proofs.Order.{larger-mono, bound-same, bound-decided, least-below, least-one}
 use Rattle.theory.proofs.Ceilings.{ceiling-is-reached}

@@ -1,8 +1,8 @@
 -- No floor is above its ceiling, and working more sets brings the two no further apart.
 -- Assumes nothing.
-use mathlib.Core.Path.{_≡_, refl, sym, _∙_, ap, ap₂, subst}
-use mathlib.Core.Bool.{Bool, true, false, not, _||_}
-use mathlib.Core.Logic.{_⊎_, inl, inr}
+use mathlib.Core.Path.{_≡_, refl, ap, ap₂}
+use mathlib.Core.Bool.{Bool, true, not, _||_}
+use mathlib.Core.Logic.{inl, inr}
 use Rattle.std.proofs.shelf.Tests.{both-ways, cases-bool, not-true, not-from-false, or-cases, or-left, or-right}
 use Rattle.worlds.specs.Steps.{Step, action, sensing}
 use Rattle.worlds.specs.Tickets.{Ticket}
