@@ -9,18 +9,9 @@ use Rattle.std.proofs.shelf.Tests.{both-ways, cases-bool, not-true, not-from-fa
 use Rattle.worlds.specs.Worlds.{World, Literal, holds, meets, some-world, In}
 use Rattle.worlds.specs.Steps.{Outcome, after}
 use Rattle.worlds.specs.Sets.{Worlds, all-meet, same-value, same-world, may-give, successor, side}
-use Rattle.worlds.proofs.Compatible.{cannot-pass, some-world-from}
+use Rattle.worlds.proofs.Compatible.{cannot-pass, some-world-from, the-world}
 
 -- ## Some world, no world
-
--- where some world passes, this is one
-pub the-world : (n : ℕ) (test : World n → Bool) → some-world n test ≡ true → (w : World n) × (test w ≡ true)
-the-world zero test some = (tt, some)
-the-world (suc n) test some =
-    elim (or-cases (some-world n (λ w. test (true, w))) (some-world n (λ w. test (false, w))) some) [
-      | inl h ↦ let found = the-world n (λ w. test (true, w)) h in ((true, found .0), found .1)
-      | inr h ↦ let found = the-world n (λ w. test (false, w)) h in ((false, found .0), found .1)
-    ]
 
 -- where no world passes, each world fails
 pub no-world : (n : ℕ) (test : World n → Bool) (w : World n) → some-world n test ≡ false → test w ≡ false
