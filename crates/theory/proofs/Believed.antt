@@ -1,26 +1,17 @@
 -- Sets of worlds, world by world: what it is for all of a set to meet a list, and which worlds a step gives.
 -- Assumes nothing.
-use mathlib.Core.Path.{_≡_, refl, sym, _∙_, ap, ap₂, subst, fun-ext}
-use mathlib.Core.Bool.{Bool, true, false, not, _&&_, _||_, cond}
+use mathlib.Core.Path.{_≡_, refl, sym, _∙_, subst, fun-ext}
+use mathlib.Core.Bool.{Bool, true, false, not, _&&_}
 use mathlib.Core.List.{List, [], _∷_}
-use mathlib.Core.Logic.{_⊎_, inl, inr}
+use mathlib.Core.Logic.{inl, inr}
 use Prim.Native.Nat.{ℕ, zero, suc}
-use Rattle.std.proofs.shelf.Tests.{both-ways, cases-bool, not-true, not-from-false, and-parts, and-from, or-cases, or-left, or-right, false≢true, cond-true, cond-false}
+use Rattle.std.proofs.shelf.Tests.{both-ways, cases-bool, not-true, not-from-false, and-parts, and-from, or-cases, or-left, or-right, false≢true}
 use Rattle.worlds.specs.Worlds.{World, Literal, holds, meets, some-world, In}
 use Rattle.worlds.specs.Steps.{Outcome, after}
-use Rattle.worlds.specs.Sets.{Worlds, none-in, all-meet, same-value, same-world, may-give, successor, side}
-use Rattle.worlds.proofs.Compatible.{cannot-pass, some-world-from}
+use Rattle.worlds.specs.Sets.{Worlds, all-meet, same-value, same-world, may-give, successor, side}
+use Rattle.worlds.proofs.Compatible.{cannot-pass, some-world-from, the-world}
 
 -- ## Some world, no world
-
--- where some world passes, this is one
-pub the-world : (n : ℕ) (test : World n → Bool) → some-world n test ≡ true → (w : World n) × (test w ≡ true)
-the-world zero test some = (tt, some)
-the-world (suc n) test some =
-    elim (or-cases (some-world n (λ w. test (true, w))) (some-world n (λ w. test (false, w))) some) [
-      | inl h ↦ let found = the-world n (λ w. test (true, w)) h in ((true, found .0), found .1)
-      | inr h ↦ let found = the-world n (λ w. test (false, w)) h in ((false, found .0), found .1)
-    ]
 
 -- where no world passes, each world fails
 pub no-world : (n : ℕ) (test : World n → Bool) (w : World n) → some-world n test ≡ false → test w ≡ false

@@ -1,16 +1,15 @@
 -- A procedure through worked sets that ends in aim sets only surely reaches the aim, at exactly its total.
 -- Assumes nothing.
 use mathlib.Core.Path.{_≡_, refl, sym, _∙_, ap, ap₂, subst}
-use mathlib.Core.Bool.{Bool, true, false, _&&_}
+use mathlib.Core.Bool.{Bool, true, false}
 use Rattle.std.specs.declared.option.Option.{Option}
-use Rattle.std.specs.declared.option.Option.the-variants.{Some, None}
 use Rattle.std.proofs.shelf.Tests.{and-parts, not-from-true, cond-false}
-use Rattle.worlds.specs.Worlds.{World, some-world}
+use Rattle.worlds.specs.Worlds.{some-world}
 use Rattle.worlds.specs.Steps.{Step, action, sensing, after}
 use Rattle.worlds.specs.Tickets.{Ticket}
-use Rattle.worlds.specs.Sets.{Worlds, none-in, all-meet, side}
-use Rattle.theory.specs.Procedures.{Belief, Procedure, Acts, Senses, Sure, Surely, larger, branch-total, action-total, sensing-total, total}
-use Rattle.theory.specs.Bounds.{Way, end, by-action, by-sensing, as-procedure, way-total, Ceiling-way, open-in}
+use Rattle.worlds.specs.Sets.{none-in, all-meet, side}
+use Rattle.theory.specs.Procedures.{Belief, Acts, Senses, Sure, Surely, larger, action-total, sensing-total, total}
+use Rattle.theory.specs.Bounds.{Way, end, by-action, by-sensing, as-procedure, way-total, Ceiling-way}
 use Rattle.theory.specs.Theorems.{Ceiling-is-reached}
 use Rattle.theory.proofs.Believed.{all-meets, successor-has, side-has}
 
@@ -50,5 +49,6 @@ module _ {T : Type 0} (le : T → T → Bool) (nothing : T) (add : Step → T �
       (sym (taken .of-ticket))
       (ap₂ (λ a b. add x (larger le a b)) yes-total no-total)
 
+  -- both together
   pub ceiling-is-reached : Ceiling-is-reached le nothing add
   ceiling-is-reached t worked s p = (reaches t worked p, same-total t worked _ p)

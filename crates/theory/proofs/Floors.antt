@@ -1,23 +1,23 @@
 -- No procedure that surely reaches the aim has a total below the floor.
 -- Assumes nothing.
 use mathlib.Core.Path.{_≡_, refl, sym, _∙_, ap, subst}
-use mathlib.Core.Bool.{Bool, true, false, not, _&&_, _||_}
+use mathlib.Core.Bool.{Bool, true, false, not, _||_}
 use mathlib.Core.List.{List}
-use mathlib.Core.Logic.{_⊎_, inl, inr}
+use mathlib.Core.Logic.{inl, inr}
 use Prim.Native.Nat.{ℕ}
 use Rattle.std.specs.declared.option.Option.{Option}
 use Rattle.std.specs.declared.option.Option.the-variants.{Some, None}
-use Rattle.std.proofs.shelf.Tests.{both-ways, cases-bool, not-from-true, not-false, and-from, or-left, or-parts, cond-false}
-use Rattle.worlds.specs.Worlds.{World, Literal, holds, meets, some-world, In}
-use Rattle.worlds.specs.Steps.{Outcome, Step, action, sensing, after}
+use Rattle.std.proofs.shelf.Tests.{cases-bool, not-from-true, not-false, and-from, or-left, or-parts, cond-false}
+use Rattle.worlds.specs.Worlds.{World, Literal, some-world}
+use Rattle.worlds.specs.Steps.{Outcome, Step, action, sensing}
 use Rattle.worlds.specs.Tickets.{Ticket, step-at}
 use Rattle.worlds.specs.Sets.{Worlds, none-in, all-meet, successor, side}
 use Rattle.tally.specs.Laws.{Laws}
-use Rattle.theory.specs.Procedures.{Belief, Procedure, empty, act, sense, Acts, Senses, Sure, Surely, larger, branch-total, action-total, sensing-total, total}
-use Rattle.theory.specs.Bounds.{Way, end, by-action, by-sensing, way-total, Floor-way, aim-set, Open-step, open-in}
+use Rattle.theory.specs.Procedures.{Belief, Procedure, empty, act, sense, Acts, Senses, Sure, Surely, branch-total, action-total, sensing-total, total}
+use Rattle.theory.specs.Bounds.{end, by-action, by-sensing, way-total, Floor-way, aim-set, Open-step}
 use Rattle.theory.specs.Theorems.{Sure-is-covered, Floor-is-not-above-sure}
 use Rattle.worlds.proofs.Compatible.{some-world-from}
-use Rattle.theory.proofs.Order.{le-self, larger-left, larger-right, larger-mono}
+use Rattle.theory.proofs.Order.{larger-left, larger-right, larger-mono}
 use Rattle.theory.proofs.Believed.{all-meet-from, one-unmet, successor-from, side-from, other-value, other-side}
 
 -- ## What surely reaching the aim asks of a first step

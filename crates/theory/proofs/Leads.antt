@@ -1,6 +1,6 @@
 -- There is no lead exactly when floor and ceiling agree; what they agree on is the least total.
 -- Assumes nothing.
-use mathlib.Core.Path.{_≡_, refl, sym, _∙_, ap, subst}
+use mathlib.Core.Path.{_≡_, refl, sym, _∙_, subst}
 use mathlib.Core.Bool.{Bool, true, false, not, _||_}
 use mathlib.Core.List.{[], _∷_}
 use mathlib.Core.Logic.{_⊎_, inl, inr}
@@ -11,11 +11,11 @@ use Rattle.std.proofs.shelf.Tests.{both-ways, cases-bool, not-true, not-from-fa
 use Rattle.worlds.specs.Worlds.{In}
 use Rattle.worlds.specs.Steps.{Step, action, sensing}
 use Rattle.worlds.specs.Tickets.{Ticket}
-use Rattle.worlds.specs.Sets.{Worlds, successor, side}
+use Rattle.worlds.specs.Sets.{successor, side}
 use Rattle.tally.specs.Laws.{Laws}
-use Rattle.theory.specs.Procedures.{Belief, Procedure, Surely, larger, total}
-use Rattle.theory.specs.Bounds.{Way, end, by-action, by-sensing, as-procedure, way-total, Ceiling-way, Floor-way, Floor, Ceiling, aim-set, following, Open-step, bound-le, Joined, there, onward, Lead, Closed, Have-bounds}
-use Rattle.theory.specs.Theorems.{No-lead-exactly-when-agreed, Agreed-is-best, Agreed-on-none}
+use Rattle.theory.specs.Procedures.{Belief}
+use Rattle.theory.specs.Bounds.{end, by-action, by-sensing, as-procedure, way-total, Ceiling-way, Floor-way, Floor, Ceiling, aim-set, following, Open-step, Joined, there, onward, Lead, Closed, Have-bounds}
+use Rattle.theory.specs.Theorems.{No-lead-exactly-when-agreed, Leads-are-held, Agreed-is-best, Agreed-on-none}
 use Rattle.theory.proofs.Order.{larger-mono, bound-same, bound-decided, least-below, least-one}
 use Rattle.theory.proofs.Ceilings.{ceiling-is-reached}
 use Rattle.theory.proofs.Narrowing.{floor-is-below}
@@ -140,6 +140,7 @@ module _ {T : Type 0} {le : T → T → Bool} {nothing : T} {add : Step → T �
             (by-sensing s k class precondition l was taken (q .0) (r .0), laws .monotone _ _ _ (larger-mono laws _ _ _ _ (q .1) (r .1)))
       ]
 
+  -- both directions
   pub no-lead-exactly-when-agreed : No-lead-exactly-when-agreed le nothing add
   no-lead-exactly-when-agreed t worked held closed bounds s b c is-held floor ceiling = (
     λ leadless.
@@ -150,11 +151,25 @@ module _ {T : Type 0} {le : T → T → Bool} {nothing : T} {add : Step → T �
         agreed-not-joined t worked l (lead .joined) (lead .unworked) (lead .no-aim) b floor (subst (λ (x : Option T). Ceiling le nothing add t worked s x) (sym same) ceiling),
   )
 
+  -- ## Leads are held
+
+  -- the end of a path from a held set is held
+  joined-held : (t : Ticket) (worked held : Belief t → Bool) → Closed t worked held → (last : Belief t) {s : Belief t} → Joined le nothing add t worked last s → held s ≡ true → held last ≡ true
+  joined-held t worked held closed last (there s same) is-held = subst (λ (r : Belief t). held r ≡ true) same is-held
+  joined-held t worked held closed last (onward s next k x was apart taken floors in-next rest) is-held =
+      joined-held t worked held closed last rest (closed s k x is-held was taken next in-next)
+
+  -- so is every lead
+  pub leads-are-held : Leads-are-held le nothing add
+  leads-are-held t worked held closed s l is-held lead = joined-held t worked held closed l (lead .joined) is-held
+
   -- ## What they agree on
 
+  -- where the floor is none, nothing surely reaches the aim
   pub agreed-on-none : Agreed-on-none le nothing add
   agreed-on-none t worked s floor ceiling p sure = floor (sure-is-covered laws t worked s p sure .0)
 
+  -- a total that both are is reached, and nothing is below it
   pub agreed-is-best : Agreed-is-best le nothing add
   agreed-is-best t worked s None floor ceiling = λ p. agreed-on-none t worked s floor ceiling (p .0) (p .1)
   agreed-is-best t worked s (Some b) floor ceiling =

@@ -1,8 +1,8 @@
 -- No floor is above its ceiling, and working more sets brings the two no further apart.
 -- Assumes nothing.
-use mathlib.Core.Path.{_≡_, refl, sym, _∙_, ap, ap₂, subst}
-use mathlib.Core.Bool.{Bool, true, false, not, _||_}
-use mathlib.Core.Logic.{_⊎_, inl, inr}
+use mathlib.Core.Path.{_≡_, refl, ap, ap₂}
+use mathlib.Core.Bool.{Bool, true, not, _||_}
+use mathlib.Core.Logic.{inl, inr}
 use Rattle.std.proofs.shelf.Tests.{both-ways, cases-bool, not-true, not-from-false, or-cases, or-left, or-right}
 use Rattle.worlds.specs.Steps.{Step, action, sensing}
 use Rattle.worlds.specs.Tickets.{Ticket}
@@ -34,12 +34,14 @@ module _ {T : Type 0} {le : T → T → Bool} {nothing : T} {add : Step → T �
       let q = widened t worked worked (aim-set t) (λ r. aim-set t r || not (worked r)) (λ r h. h) (λ r h. or-left _ _ h) p in
       (q .0, le-equal laws _ _ (q .1))
 
+  -- the least of either kind of procedures is one at most
   pub bounds-are-single : Bounds-are-single le nothing add
   bounds-are-single t worked s b c = (
     λ first second. least-one laws (λ p. way-total le nothing add p) b c first second,
     λ first second. least-one laws (λ p. way-total le nothing add p) b c first second,
   )
 
+  -- so no floor is above its ceiling
   pub floor-is-below : Floor-is-below le nothing add
   floor-is-below t worked s b c floor ceiling =
       least-below laws (λ q. way-total le nothing add q) (λ p. way-total le nothing add p) b c (ceiling-under t worked s) floor ceiling
@@ -76,6 +78,7 @@ module _ {T : Type 0} {le : T → T → Bool} {nothing : T} {add : Step → T �
       let q = widened t worked more (aim-set t) (aim-set t) still (λ r h. h) p in
       (q .0, le-equal laws _ _ (q .1))
 
+  -- so working more sets never lowers a floor, nor raises a ceiling
   pub working-narrows : Working-narrows le nothing add
   working-narrows t worked more still s = (
     λ b c before after. least-below laws (λ q. way-total le nothing add q) (λ p. way-total le nothing add p) b c (λ p. cut t worked more still p) before after,

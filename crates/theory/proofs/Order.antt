@@ -1,7 +1,7 @@
 -- What follows from the laws of a tally: the larger of two totals, and bounds that are least.
 -- Assumes nothing.
-use mathlib.Core.Path.{_≡_, refl, sym, _∙_, ap, subst}
-use mathlib.Core.Bool.{Bool, true, false, cond}
+use mathlib.Core.Path.{_≡_, refl, sym, ap, subst}
+use mathlib.Core.Bool.{Bool, true, false}
 use mathlib.Core.Logic.{_⊎_, inl, inr}
 use Rattle.std.specs.declared.option.Option.{Option}
 use Rattle.std.specs.declared.option.Option.the-variants.{Some, None}
@@ -22,10 +22,11 @@ module _ {T : Type 0} {le : T → T → Bool} {nothing : T} {add : Step → T �
   pub le-equal : (a b : T) → a ≡ b → le a b ≡ true
   le-equal a b e = subst (λ (x : T). le a x ≡ true) e (le-self a)
 
-  -- each of two totals is at most the larger
+  -- the first of two totals is at most the larger
   pub larger-left : (a b : T) → le a (larger le a b) ≡ true
   larger-left a b = cond-both (le a b) b a (λ x. le a x ≡ true) (λ e. e) (λ e. le-self a)
 
+  -- and so is the second
   pub larger-right : (a b : T) → le b (larger le a b) ≡ true
   larger-right a b = cond-both (le a b) b a (λ x. le b x ≡ true) (λ e. le-self b) (λ e. laws .total a b e)
 

@@ -5,7 +5,7 @@ use mathlib.Core.List.{List, [], _∷_}
 use Prim.Native.Nat.{ℕ}
 use Rattle.std.specs.declared.option.Option.{Option}
 use Rattle.std.specs.declared.option.Option.the-variants.{Some, None}
-use Rattle.worlds.specs.Worlds.{World, Literal, some-world, In}
+use Rattle.worlds.specs.Worlds.{Literal, some-world, In}
 use Rattle.worlds.specs.Steps.{Outcome, Step, action, sensing}
 use Rattle.worlds.specs.Tickets.{Ticket, step-at}
 use Rattle.worlds.specs.Sets.{Worlds, all-meet, successor, side}

@@ -1,6 +1,6 @@
 -- What floors, ceilings and leads tell of the procedures that surely reach the aim.
 use mathlib.Core.Path.{_≡_}
-use mathlib.Core.Bool.{Bool, true, false}
+use mathlib.Core.Bool.{Bool, true}
 use mathlib.Core.Logic.{_↔_}
 use Rattle.std.specs.declared.option.Option.{Option}
 use Rattle.std.specs.declared.option.Option.the-variants.{Some, None}
@@ -51,6 +51,11 @@ module _ {T : Type 0} (le : T → T → Bool) (nothing : T) (add : Step → T �
       (s : Belief t) (b c : Option T) → held s ≡ true →
       Floor le nothing add t worked s b → Ceiling le nothing add t worked s c →
       ((l : Belief t) → Lead le nothing add t worked s l → ⊥) ↔ (b ≡ c)
+
+  -- every lead from a set of a closed collection is in the collection
+  abbrev pub Leads-are-held : Type 0
+  Leads-are-held = (t : Ticket) (worked held : Belief t → Bool) → Closed t worked held →
+      (s l : Belief t) → held s ≡ true → Lead le nothing add t worked s l → held l ≡ true
 
   -- where floor and ceiling agree, they are the least total of all procedures that surely reach the aim
   abbrev pub Agreed-is-best : Type 0

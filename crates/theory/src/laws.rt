@@ -1,5 +1,5 @@
 // Theorems for every lawful tally. Each stands as the contract of a function that computes nothing.
-ghost use Rattle.theory.specs.Theorems.{Agreed-is-best, Agreed-on-none, Bounds-are-single, Ceiling-is-reached, Floor-is-below, Floor-is-not-above-sure, No-lead-exactly-when-agreed, Sure-is-covered, Working-narrows};
+ghost use Rattle.theory.specs.Theorems.{Agreed-is-best, Agreed-on-none, Bounds-are-single, Ceiling-is-reached, Floor-is-below, Floor-is-not-above-sure, Leads-are-held, No-lead-exactly-when-agreed, Sure-is-covered, Working-narrows};
 use tally::Tally;
 
 // What counts for a ceiling is a procedure that surely reaches the aim, at exactly its total.
@@ -47,6 +47,13 @@ pub fn floor_is_not_above_sure<T: Tally>() -> u8
 // A set has no lead exactly when its floor and its ceiling agree.
 pub fn no_lead_exactly_when_agreed<T: Tally>() -> u8
     ensures { λ _. ⌜ No-lead-exactly-when-agreed (T·Tally .le) (T·Tally .nothing) (T·Tally .add) ⌝ }
+{
+    0
+}
+
+// Every lead from a set of a closed collection is in the collection.
+pub fn leads_are_held<T: Tally>() -> u8
+    ensures { λ _. ⌜ Leads-are-held (T·Tally .le) (T·Tally .nothing) (T·Tally .add) ⌝ }
 {
     0
 }
