@@ -1,0 +1,37 @@
+// Rows: sets of worlds of up to ten conditions, and what a bank asks of them.
+ghost use mathlib.Core.Path.{_≡_};
+ghost use mathlib.Core.Bool.{true, _&&_};
+ghost use mathlib.Core.List.{map};
+ghost use Prim.Native.Nat.{ℕ, _+_, _*_, _^_, _<_, _≤_};
+ghost use lib.Dec.{ltb};
+ghost use Rattle.worlds.specs.Worlds.{World, speaks-within};
+ghost use Rattle.worlds.specs.Tickets.{every, lawful-list, meets-some};
+ghost use Rattle.worlds.specs.Sets.{all-meet, none-in, same-value, side};
+ghost use Rattle.worlds.specs.Meaning.{listed};
+ghost use Rattle.map_bank.specs.Bits.{bit};
+ghost use Rattle.map_bank.specs.Numbers.{number, number-holds, in-words, set-of};
+ghost use Rattle.map_bank.specs.Rows.{Tidy};
+use crate::words::{has, literal_mask, meet_mask, put};
+use worlds::step::{Literal, Term};
+
+// Word k of the worlds in which a literal is so, or of those in which it is not.
+fn side_mask(literal: Literal, so: bool, k: usize) -> u64
+    requires { ⌜ (speaks-within 10 literal ≡ true) × (k < 16) ⌝ }
+    ensures { λ r. ⌜ ((b : ℕ) → b < 64 → bit r b ≡ same-value so (number-holds (64 * k + b) literal)) ⌝ }
+{
+    let mask = literal_mask(literal, k);
+    if so { mask } else { !mask }
+}
+
+// The worlds of a row in which a literal is so, or those in which it is not. The row may be of any number of conditions.
+pub(crate) fn side_row(row: &[u64; 16], literal: Literal, so: bool) -> [u64; 16]
+    requires { ⌜ speaks-within 10 literal ≡ true ⌝ }
+    ensures worlds { λ r. ⌜ ((n : ℕ) → n ≤ 10 → (w : World n) → set-of n r w ≡ side n literal so (set-of n (now (row .entry))) w) ⌝ }
+    ensures tidy { λ r. ⌜ ((n : ℕ) → Tidy n (now (row .entry)) → Tidy n r) ⌝ }
+{
+    let mut side = [0; 16];
+    for k in 0..16 {
+        side[k] = row[k] & side_mask(literal, so, k);
+    }
+    side
+}
