@@ -5,19 +5,24 @@ use mathlib.Core.Bool.{Bool, true, false, not, _&&_, _||_}
 use mathlib.Core.List.{List, [], _∷_}
 use mathlib.Core.Logic.{inl, inr}
 use Prim.Native.Nat.{ℕ, zero, suc, _+_, _-_, _*_, _/_, _%_, _^_, _≤_, _<_}
+use native.Mathlib.Nat.{pow-suc}
 use native.Mathlib.Omega.{arith}
 use borrow.Author.Count.{below-none, below-more}
-use lib.Bits.{bitAnd}
+use lib.Bits.{bitAnd, and-le-l}
+use lib.Dec.{eqb}
 use lib.ListN.{length, getD, set, length-set}
 use lib.Seq.{getD-set-same, getD-set-other}
-use Rattle.std.proofs.shelf.Tests.{and-left}
-use Rattle.worlds.specs.Worlds.{World, Literal, holds, speaks-within}
-use Rattle.worlds.specs.Sets.{same-value, side}
+use Rattle.std.proofs.shelf.Lists.{ext-getD}
+use Rattle.std.proofs.shelf.Tests.{false≢true, both-ways, not-true, not-false, eqb-false, cases-lt, cases-bool, and-parts, and-from, and-left}
+use Rattle.worlds.specs.Worlds.{World, Literal, holds, meets, some-world, speaks-within}
+use Rattle.worlds.specs.Sets.{all-meet, none-in, same-set, same-value, side}
+use Rattle.worlds.proofs.Compatible.{cannot-pass, some-world-from, the-world}
 use Rattle.map_bank.specs.Bits.{bit}
-use Rattle.map_bank.specs.Numbers.{number, number-holds, in-words, set-of}
+use Rattle.map_bank.specs.Numbers.{number, world-of, number-holds, in-words, set-of}
 use Rattle.map_bank.specs.Rows.{Tidy}
-use Rattle.map_bank.proofs.BitLaws.{bit-and, bit-complement}
-use Rattle.map_bank.proofs.NumberLaws.{number-below, holds-bits}
+use Rattle.map_bank.proofs.BitLaws.{bit-and, bit-lowest, bit-above, bit-zero, bit-complement, same-bits}
+use Rattle.map_bank.proofs.NumberLaws.{number-below, number-of-world, holds-bits}
+use Rattle.map_bank.proofs.TruthTable.{same-value-is}
 
 -- ## A row made word by word
 
@@ -72,3 +77,146 @@ pub side-tidy : (row made : List ℕ) (l : Literal) (so : Bool) (i : ℕ) → 16
 side-tidy row made l so i end first n tidy k beyond h =
     in-side row made l so i end first k h
     ∙ and-left (in-words row k) (same-value so (number-holds k l)) (tidy k beyond h)
+
+-- ## A row asked word by word
+
+pub nonzero-bit : (k x : ℕ) → x < 2 ^ k → (x ≡ 0 → ⊥) → (b : ℕ) × (b < k) × (bit x b ≡ true)
+nonzero-bit zero x small some = absurd (some (omega arith))
+nonzero-bit (suc k) x small some =
+    elim (cases-bool (eqb (x % 2) 1)) [
+      | inl odd ↦ (0, omega arith, bit-lowest x ∙ odd)
+      | inr even ↦
+          let twice : 2 ^ suc k ≡ 2 ^ k * 2 = pow-suc 2 k in
+          let above = nonzero-bit k (x / 2) (omega arith) (λ none. some (let not-one : x % 2 ≡ 1 → ⊥ = eqb-false (x % 2) 1 even in omega arith)) in
+          (suc (above .0), omega arith, bit-above x (above .0) ∙ above .2)
+    ]
+
+-- a bit of a word, as the row has it under the number of its world
+in-word : (row : List ℕ) (j b : ℕ) → b < 64 → in-words row (64 * j + b) ≡ bit (getD row j 0) b
+in-word row j b hb =
+    let word : (64 * j + b) / 64 ≡ j = omega arith in
+    let place : (64 * j + b) % 64 ≡ b = omega arith in
+    ap₂ (λ (x y : ℕ). bit (getD row x 0) y) word place
+
+-- a tidy row's bit of a number is that of a world
+tidy-world : (n : ℕ) (row : List ℕ) (k : ℕ) → Tidy n row → k < 1024 → in-words row k ≡ true → (w : World n) × (number n w ≡ k)
+tidy-world n row k tidy h has =
+    elim (cases-lt k (2 ^ n)) [
+      | inl below ↦ (world-of n k, number-of-world n k below)
+      | inr beyond ↦ absurd (both-ways (in-words row k) (tidy k beyond h) has)
+    ]
+
+-- that no world passes a test, and that some world does
+none-from : (n : ℕ) (test : World n → Bool) → ((w : World n) → test w ≡ true → ⊥) → true ≡ not (some-world n test)
+none-from n test never =
+    sym (ap not (cannot-pass (some-world n test) (λ some. let found = the-world n test some in never (found .0) (found .1))))
+
+some-from : (n : ℕ) (test : World n → Bool) (w : World n) → test w ≡ true → false ≡ not (some-world n test)
+some-from n test w passes = sym (ap not (some-world-from n test w passes))
+
+-- each world of word j meets a list
+abbrev pub WordMeets : List ℕ → List Literal → ℕ → Type 0
+WordMeets row list j = (n : ℕ) (w : World n) (b : ℕ) → b < 64 → number n w ≡ 64 * j + b → bit (getD row j 0) b ≡ true → meets n w list ≡ true
+
+-- what is known of the word of the worlds that meet a list
+abbrev pub MeetWord : List Literal → ℕ → ℕ → Type 0
+MeetWord list j mask = (n : ℕ) (w : World n) (b : ℕ) → b < 64 → number n w ≡ 64 * j + b → bit mask b ≡ meets n w list
+
+-- the bits of `word & !mask`
+bit-outside : (word mask b : ℕ) → mask < 2 ^ 64 → b < 64 → bit (bitAnd word (2 ^ 64 - 1 - mask)) b ≡ (bit word b && not (bit mask b))
+bit-outside word mask b small hb =
+    bit-and word (2 ^ 64 - 1 - mask) b ∙ ap (λ (x : Bool). bit word b && x) (bit-complement mask b small hb)
+
+no-longer : (x y : Bool) → (x && not y) ≡ false → x ≡ true → y ≡ true
+no-longer true true none has = refl
+no-longer true false none has = sym none
+no-longer false y none has = absurd (false≢true has)
+
+pub word-meets : (row : List ℕ) (list : List Literal) (j mask : ℕ) → mask < 2 ^ 64 → MeetWord list j mask → bitAnd (getD row j 0) (2 ^ 64 - 1 - mask) ≡ 0 → WordMeets row list j
+word-meets row list j mask small right none n w b hb is has =
+    let outside : (bit (getD row j 0) b && not (bit mask b)) ≡ false =
+    sym (bit-outside (getD row j 0) mask b small hb) ∙ ap (λ (x : ℕ). bit x b) none ∙ bit-zero b in
+    sym (right n w b hb is) ∙ no-longer (bit (getD row j 0) b) (bit mask b) outside has
+
+pub row-meets : (row : List ℕ) (list : List Literal) (i : ℕ) → 16 ≤ i → ((j : ℕ) → j < i → WordMeets row list j) → (n : ℕ) → n ≤ 10 → true ≡ all-meet n (set-of n row) list
+row-meets row list i end all n few =
+    none-from n (λ w. set-of n row w && not (meets n w list)) (λ w passes.
+      let parts = and-parts (set-of n row w) (not (meets n w list)) passes in
+      let k = number n w in
+      let below : k < 1024 = number-below n w few in
+      let met : meets n w list ≡ true = all (k / 64) (omega arith) n w (k % 64) (omega arith) (sym (rejoined k)) (parts .0) in
+      both-ways (meets n w list) (not-true (meets n w list) (parts .1)) met)
+
+-- a bit of the row outside the word of the worlds that meet a list is a world that does not
+fails-at : (row : List ℕ) (list : List Literal) (j mask b : ℕ) → j < 16 → b < 64 → MeetWord list j mask → bit (getD row j 0) b ≡ true → not (bit mask b) ≡ true → (n : ℕ) → Tidy n row → false ≡ all-meet n (set-of n row) list
+fails-at row list j mask b hj hb right has outside n tidy =
+    let here : in-words row (64 * j + b) ≡ true = in-word row j b hb ∙ has in
+    let world = tidy-world n row (64 * j + b) tidy (omega arith) here in
+    fails (world .0) (world .1) here
+  where
+    fails : (w : World n) → number n w ≡ 64 * j + b → in-words row (64 * j + b) ≡ true → false ≡ all-meet n (set-of n row) list
+    fails w is here =
+        some-from n (λ v. set-of n row v && not (meets n v list)) w
+        (and-from (set-of n row w) (not (meets n w list)) (ap (in-words row) is ∙ here)
+        (ap not (sym (right n w b hb is)) ∙ outside))
+
+pub row-fails : (row : List ℕ) (list : List Literal) (j mask : ℕ) → j < 16 → getD row j 0 < 2 ^ 64 → mask < 2 ^ 64 → MeetWord list j mask → (bitAnd (getD row j 0) (2 ^ 64 - 1 - mask) ≡ 0 → ⊥) → (n : ℕ) → Tidy n row → false ≡ all-meet n (set-of n row) list
+row-fails row list j mask hj fits small right some =
+    let found = nonzero-bit 64 (bitAnd (getD row j 0) (2 ^ 64 - 1 - mask)) (omega (arith, and-le-l (getD row j 0) (2 ^ 64 - 1 - mask))) some in
+    fails (found .0) (found .1) (found .2)
+  where
+    fails : (b : ℕ) → b < 64 → bit (bitAnd (getD row j 0) (2 ^ 64 - 1 - mask)) b ≡ true → (n : ℕ) → Tidy n row → false ≡ all-meet n (set-of n row) list
+    fails b hb outside =
+        let parts = and-parts (bit (getD row j 0) b) (not (bit mask b)) (sym (bit-outside (getD row j 0) mask b small hb) ∙ outside) in
+        fails-at row list j mask b hj hb right (parts .0) (parts .1)
+
+-- ## A row without worlds
+
+pub row-none : (row : List ℕ) (i : ℕ) → 16 ≤ i → ((j : ℕ) → j < i → getD row j 0 ≡ 0) → (n : ℕ) → n ≤ 10 → true ≡ none-in n (set-of n row)
+row-none row i end all n few =
+    none-from n (set-of n row) (λ w has.
+      let k = number n w in
+      let below : k < 1024 = number-below n w few in
+      both-ways (in-words row k) (ap (λ (x : ℕ). bit x (k % 64)) (all (k / 64) (omega arith)) ∙ bit-zero (k % 64)) has)
+
+pub row-some : (row : List ℕ) (j : ℕ) → j < 16 → getD row j 0 < 2 ^ 64 → (getD row j 0 ≡ 0 → ⊥) → (n : ℕ) → Tidy n row → false ≡ none-in n (set-of n row)
+row-some row j hj fits some n tidy =
+    let found = nonzero-bit 64 (getD row j 0) fits some in
+    let b = found .0 in
+    let has : in-words row (64 * j + b) ≡ true = in-word row j b (found .1) ∙ found .2 in
+    let world = tidy-world n row (64 * j + b) tidy (let low : b < 64 = found .1 in omega arith) has in
+    some-from n (set-of n row) (world .0) (ap (in-words row) (world .1) ∙ has)
+
+-- ## Rows are the same exactly where their sets are
+
+same-itself : (x : Bool) → same-value x x ≡ true
+same-itself true = refl
+same-itself false = refl
+
+-- sets that pass the test have the same worlds
+same-worlds : (n : ℕ) (s t : World n → Bool) → same-set n s t ≡ true → (w : World n) → s w ≡ t w
+same-worlds n s t same w =
+    same-value-is (s w) (t w) (not-false (same-value (s w) (t w)) (cannot-pass (not (same-value (s w) (t w))) (λ differ.
+      let some : some-world n (λ v. not (same-value (s v) (t v))) ≡ true = some-world-from n (λ v. not (same-value (s v) (t v))) w differ in
+      both-ways (same-set n s t) (ap not some) same)))
+
+same-in-words : (n : ℕ) (a b : List ℕ) → Tidy n a → Tidy n b → same-set n (set-of n a) (set-of n b) ≡ true → (k : ℕ) → k < 1024 → in-words a k ≡ in-words b k
+same-in-words n a b tidy-a tidy-b same k h =
+    elim (cases-lt k (2 ^ n)) [
+      | inl below ↦
+          let is : number n (world-of n k) ≡ k = number-of-world n k below in
+          ap (in-words a) (sym is) ∙ same-worlds n (set-of n a) (set-of n b) same (world-of n k) ∙ ap (in-words b) is
+      | inr beyond ↦ tidy-a k beyond h ∙ sym (tidy-b k beyond h)
+    ]
+
+pub rows-from-sets : (n : ℕ) (a b : List ℕ) → length a ≡ 16 → length b ≡ 16 → ((i : ℕ) → getD a i 0 < 2 ^ 64) → ((i : ℕ) → getD b i 0 < 2 ^ 64) → Tidy n a → Tidy n b → same-set n (set-of n a) (set-of n b) ≡ true → a ≡ b
+rows-from-sets n a b long-a long-b fits-a fits-b tidy-a tidy-b same =
+    ext-getD 0 a b (long-a ∙ sym long-b) (λ i hi.
+      same-bits (getD a i 0) (getD b i 0) (fits-a i) (fits-b i) (λ j hj.
+        sym (in-word a i j hj) ∙ same-in-words n a b tidy-a tidy-b same (64 * i + j) (omega arith) ∙ in-word b i j hj))
+
+pub sets-from-rows : (n : ℕ) (a b : List ℕ) → a ≡ b → same-set n (set-of n a) (set-of n b) ≡ true
+sets-from-rows n a b same =
+    subst (λ (c : List ℕ). same-set n (set-of n a) (set-of n c) ≡ true) same
+    (sym (none-from n (λ w. not (same-value (set-of n a w) (set-of n a w))) (λ w differ.
+      both-ways (not (same-value (set-of n a w) (set-of n a w))) (ap not (same-itself (set-of n a w))) differ)))

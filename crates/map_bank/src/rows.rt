@@ -8,6 +8,7 @@ ghost use Rattle.worlds.specs.Worlds.{World, speaks-within};
 ghost use Rattle.worlds.specs.Tickets.{every, lawful-list, meets-some};
 ghost use Rattle.worlds.specs.Sets.{all-meet, none-in, same-value, side};
 ghost use Rattle.worlds.specs.Meaning.{listed};
+ghost use Rattle.std.specs.Orderings.{Decides};
 ghost use Rattle.map_bank.specs.Bits.{bit};
 ghost use Rattle.map_bank.specs.Numbers.{number, number-holds, in-words, set-of};
 ghost use Rattle.map_bank.specs.Rows.{Tidy};
@@ -34,4 +35,34 @@ pub(crate) fn side_row(row: &[u64; 16], literal: Literal, so: bool) -> [u64; 16]
         side[k] = row[k] & side_mask(literal, so, k);
     }
     side
+}
+
+// Whether every world of a row meets a list: no word has a world outside the word of those that do.
+pub(crate) fn row_meets(row: &[u64; 16], list: &[Literal]) -> bool
+    requires { ⌜ every (speaks-within 10) (now list) ≡ true ⌝ }
+    ensures { λ r. ⌜ ((n : ℕ) → n ≤ 10 → Tidy n (now (row .entry)) → r ≡ all-meet n (set-of n (now (row .entry))) (now (list .entry))) ⌝ }
+{
+    for k in 0..16 {
+        if row[k] & !meet_mask(list, k) != 0 {
+            return false;
+        }
+    }
+    true
+}
+
+pub(crate) fn is_empty(row: &[u64; 16]) -> bool
+    ensures { λ r. ⌜ ((n : ℕ) → n ≤ 10 → Tidy n (now (row .entry)) → r ≡ none-in n (set-of n (now (row .entry)))) ⌝ }
+{
+    for k in 0..16 {
+        if row[k] != 0 {
+            return false;
+        }
+    }
+    true
+}
+
+pub(crate) fn same_row(a: &[u64; 16], b: &[u64; 16]) -> bool
+    ensures { λ r. ⌜ Decides r (now (a .entry) ≡ now (b .entry)) ⌝ }
+{
+    a == b
 }
