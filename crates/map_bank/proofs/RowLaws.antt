@@ -6,23 +6,30 @@ use mathlib.Core.List.{List, [], _∷_}
 use mathlib.Core.Logic.{inl, inr}
 use Prim.Native.Nat.{ℕ, zero, suc, _+_, _-_, _*_, _/_, _%_, _^_, _≤_, _<_}
 use native.Mathlib.Nat.{pow-suc}
+use native.Mathlib.Numerals.{add-one}
 use native.Mathlib.Omega.{arith}
 use borrow.Author.Count.{below-none, below-more}
-use lib.Bits.{bitAnd, and-le-l}
-use lib.Dec.{eqb}
-use lib.ListN.{length, getD, set, length-set}
-use lib.Seq.{getD-set-same, getD-set-other}
+use lib.Bits.{bitAnd, bitOr, and-le-l}
+use lib.Dec.{eqb, leb, ltb}
+use lib.IntN.{pos, negsuc}
+use lib.ListN.{length, getD, set, drop, replicate, length-set}
+use lib.Pow.{pow-mono}
+use lib.Seq.{getD-set-same, getD-set-other, drop-cons, drop-length}
+use Rattle.std.proofs.shelf.Bits.{one-shl}
 use Rattle.std.proofs.shelf.Lists.{ext-getD}
-use Rattle.std.proofs.shelf.Tests.{false≢true, both-ways, not-true, not-false, eqb-false, cases-lt, cases-bool, and-parts, and-from, and-left}
-use Rattle.worlds.specs.Worlds.{World, Literal, holds, meets, some-world, speaks-within}
+use Rattle.std.proofs.shelf.Tests.{false≢true, both-ways, not-true, not-false, eqb-false, leb-true, lt-ltb, le-ltb, le-leb, cases-lt, cases-bool, and-parts, and-from, and-left}
+use Rattle.std.proofs.shelf.Ways.{tells}
+use Rattle.worlds.specs.Worlds.{World, Literal, meets, some-world, speaks-within, consistent}
+use Rattle.worlds.specs.Tickets.{meets-some, every, lawful-list}
 use Rattle.worlds.specs.Sets.{all-meet, none-in, same-set, same-value, side}
 use Rattle.worlds.proofs.Compatible.{cannot-pass, some-world-from, the-world}
 use Rattle.map_bank.specs.Bits.{bit}
 use Rattle.map_bank.specs.Numbers.{number, world-of, number-holds, in-words, set-of}
 use Rattle.map_bank.specs.Rows.{Tidy}
-use Rattle.map_bank.proofs.BitLaws.{bit-and, bit-lowest, bit-above, bit-zero, bit-complement, same-bits}
-use Rattle.map_bank.proofs.NumberLaws.{number-below, number-of-world, holds-bits}
+use Rattle.map_bank.proofs.BitLaws.{bit-and, bit-or, bit-lowest, bit-above, bit-zero, bit-complement, same-bits}
+use Rattle.map_bank.proofs.NumberLaws.{number-lt, number-below, number-of-world, holds-bits}
 use Rattle.map_bank.proofs.TruthTable.{same-value-is}
+use Rattle.map_bank.proofs.WordLaws.{every-from}
 
 -- ## A row made word by word
 
@@ -220,3 +227,132 @@ sets-from-rows n a b same =
     subst (λ (c : List ℕ). same-set n (set-of n a) (set-of n c) ≡ true) same
     (sym (none-from n (λ w. not (same-value (set-of n a w) (set-of n a w))) (λ w differ.
       both-ways (not (same-value (set-of n a w) (set-of n a w))) (ap not (same-itself (set-of n a w))) differ)))
+
+-- ## The worlds that meet at least one term
+
+or-regroups : (x y z : Bool) → (x || (y || z)) ≡ ((x || y) || z)
+or-regroups true y z = refl
+or-regroups false y z = refl
+
+or-nothing : (x : Bool) → (x || false) ≡ x
+or-nothing true = refl
+or-nothing false = refl
+
+-- a world meets some of the lists where its bit in word k is one or it meets some of the rest
+abbrev Joins : ℕ → ℕ → List (List Literal) → List (List Literal) → Type 0
+Joins mask k lists rest =
+    (n : ℕ) (w : World n) (b : ℕ) → b < 64 → number n w ≡ 64 * k + b → meets-some n w lists ≡ (bit mask b || meets-some n w rest)
+
+joins-more : (mask more k : ℕ) (lists rest : List (List Literal)) (list : List Literal) → Joins mask k lists (list ∷ rest) → MeetWord list k more → Joins (bitOr mask more) k lists rest
+joins-more mask more k lists rest list before right n w b hb is =
+    before n w b hb is
+    ∙ ap (λ (x : Bool). bit mask b || (x || meets-some n w rest)) (sym (right n w b hb is))
+    ∙ or-regroups (bit mask b) (bit more b) (meets-some n w rest)
+    ∙ ap (λ (x : Bool). x || meets-some n w rest) (sym (bit-or mask more b))
+
+-- word k after the first i lists: their worlds, and the lists left to come are of conditions 1 to 10
+abbrev pub JoinsFirst : ℕ → ℕ → List (List Literal) → ℕ → Type 0
+JoinsFirst mask k lists i = (every (every (speaks-within 10)) (drop i lists) ≡ true) × Joins mask k lists (drop i lists)
+
+pub joins-first-none : (k : ℕ) (lists : List (List Literal)) → every (every (speaks-within 10)) lists ≡ true → JoinsFirst 0 k lists 0
+joins-first-none k lists within =
+    (within, λ n w b hb is. ap (λ (x : Bool). x || meets-some n w lists) (sym (bit-zero b)))
+
+pub joins-first-within : (mask k : ℕ) (lists : List (List Literal)) (i : ℕ) → i < length lists → JoinsFirst mask k lists i → every (speaks-within 10) (getD lists i []) ≡ true
+joins-first-within mask k lists i h first = every-from (every (speaks-within 10)) lists i [] h (first .0) .0
+
+pub joins-first-more : (mask more k : ℕ) (lists : List (List Literal)) (i : ℕ) → i < length lists → JoinsFirst mask k lists i → MeetWord (getD lists i []) k more → JoinsFirst (bitOr mask more) k lists (i + 1)
+joins-first-more mask more k lists i h first right =
+    let here : Joins mask k lists (getD lists i [] ∷ drop (suc i) lists) =
+    subst (λ (rest : List (List Literal)). Joins mask k lists rest) (drop-cons lists i [] h) (first .1) in
+    subst (JoinsFirst (bitOr mask more) k lists) (sym (add-one i))
+    ( every-from (every (speaks-within 10)) lists i [] h (first .0) .1
+    , joins-more mask more k lists (drop (suc i) lists) (getD lists i []) here right )
+
+-- word k of the worlds that meet some of the lists
+abbrev pub UnionWord : List (List Literal) → ℕ → ℕ → Type 0
+UnionWord lists k word = (n : ℕ) (w : World n) (b : ℕ) → b < 64 → number n w ≡ 64 * k + b → bit word b ≡ meets-some n w lists
+
+pub joins-first-all : (mask k : ℕ) (lists : List (List Literal)) (i : ℕ) → i ≡ length lists → JoinsFirst mask k lists i → UnionWord lists k mask
+joins-first-all mask k lists i end first n w b hb is =
+    let rest : drop i lists ≡ [] = ap (λ (j : ℕ). drop j lists) end ∙ drop-length lists in
+    sym (subst (λ (ls : List (List Literal)). Joins mask k lists ls) rest (first .1) n w b hb is ∙ or-nothing (bit mask b))
+
+pub union-worlds : (lists : List (List Literal)) (made : List ℕ) (i : ℕ) → 16 ≤ i → WordsTo (UnionWord lists) made i → (n : ℕ) → n ≤ 10 → (w : World n) → set-of n made w ≡ meets-some n w lists
+union-worlds lists made i end first n few w =
+    words-all (UnionWord lists) made i end first (number n w) (number-below n w few) n w (number n w % 64) (omega arith)
+    (sym (rejoined (number n w)))
+
+-- ## A row without the bits beyond its worlds
+
+-- `1 << n` is the number of worlds of n conditions, at most 1024
+pub shift-worlds : (n : ℕ) → n ≤ 10 → (1 * 2 ^ n) % 2 ^ 64 ≡ 2 ^ n
+shift-worlds n few = one-shl n 64 (omega arith)
+
+pub few-worlds : (n : ℕ) → n ≤ 10 → 2 ^ n ≤ 1024
+few-worlds n few = pow-mono few
+
+-- of the numbers below i, a set has those that the row has, and no other
+abbrev pub TrimmedTo : List ℕ → List ℕ → ℕ → Type 0
+TrimmedTo row kept i = (k : ℕ) → in-words kept k ≡ (ltb k i && in-words row k)
+
+zeros : (m i : ℕ) → getD {A = ℕ} (replicate m 0) i 0 ≡ 0
+zeros zero i = refl
+zeros (suc m) zero = refl
+zeros (suc m) (suc i) = zeros m i
+
+pub trimmed-none : (row : List ℕ) → TrimmedTo row (replicate 16 0) 0
+trimmed-none row k =
+    ap (λ (x : ℕ). bit x (k % 64)) (zeros 16 (k / 64)) ∙ bit-zero (k % 64)
+    ∙ sym (and-left (ltb k 0) (in-words row k) (le-ltb k 0 (omega arith)))
+
+below-with : (k i : ℕ) (x : Bool) → (k ≡ i → x ≡ true) → ((ltb k i && x) || eqb k i) ≡ (ltb k (i + 1) && x)
+below-with k i x here = grind (arith, tells)
+
+below-without : (k i : ℕ) (x : Bool) → (k ≡ i → x ≡ false) → (ltb k i && x) ≡ (ltb k (i + 1) && x)
+below-without k i x here = grind (arith, tells)
+
+pub trimmed-with : (row kept after : List ℕ) (i : ℕ) → in-words row i ≡ true → ((k : ℕ) → in-words after k ≡ (in-words kept k || eqb k i)) → TrimmedTo row kept i → TrimmedTo row after (i + 1)
+trimmed-with row kept after i has puts before k =
+    puts k ∙ ap (λ (x : Bool). x || eqb k i) (before k)
+    ∙ below-with k i (in-words row k) (λ e. ap (in-words row) e ∙ has)
+
+pub trimmed-without : (row kept : List ℕ) (i : ℕ) → in-words row i ≡ false → TrimmedTo row kept i → TrimmedTo row kept (i + 1)
+trimmed-without row kept i lacks before k =
+    before k ∙ below-without k i (in-words row k) (λ e. ap (in-words row) e ∙ lacks)
+
+-- ## The starting worlds
+
+speaks-more : (m n : ℕ) → m ≤ n → (l : Literal) → speaks-within m l ≡ true → speaks-within n l ≡ true
+speaks-more m n h (pos p) within =
+    let parts = and-parts (ltb 0 p) (leb p m) within in
+    let most : p ≤ m = leb-true p m (parts .1) in
+    and-from (ltb 0 p) (leb p n) (parts .0) (le-leb p n (omega arith))
+speaks-more m n h (negsuc p) within =
+    let most : suc p ≤ m = leb-true (suc p) m within in
+    le-leb (suc p) n (omega arith)
+
+every-more : {X : Type 0} (test other : X → Bool) → ((x : X) → test x ≡ true → other x ≡ true) → (xs : List X) → every test xs ≡ true → every other xs ≡ true
+every-more test other more [] all = refl
+every-more test other more (x ∷ xs) all =
+    let parts = and-parts (test x) (every test xs) all in
+    and-from (other x) (every other xs) (more x (parts .0)) (every-more test other more xs (parts .1))
+
+-- lawful lists of n conditions are of conditions 1 to 10 where n is at most 10
+pub lawful-speak : (n : ℕ) → n ≤ 10 → (lists : List (List Literal)) → every (lawful-list n 32) lists ≡ true → every (every (speaks-within 10)) lists ≡ true
+lawful-speak n few lists lawful =
+    every-more (lawful-list n 32) (every (speaks-within 10)) (λ ls one.
+      let speaks = and-parts (leb (length ls) 32) (every (speaks-within n) ls && consistent ls) one .1 in
+      every-more (speaks-within n) (speaks-within 10) (speaks-more n 10 few) ls
+      (and-parts (every (speaks-within n) ls) (consistent ls) speaks .0))
+    lists lawful
+
+pub start-worlds : (n : ℕ) (lists : List (List Literal)) (union made : List ℕ) → ((w : World n) → set-of n union w ≡ meets-some n w lists) → TrimmedTo union made (2 ^ n) → (w : World n) → set-of n made w ≡ meets-some n w lists
+start-worlds n lists union made joined trims w =
+    trims (number n w)
+    ∙ ap (λ (x : Bool). x && set-of n union w) (lt-ltb (number n w) (2 ^ n) (number-lt n w))
+    ∙ joined w
+
+pub start-tidy : (n : ℕ) (union made : List ℕ) → TrimmedTo union made (2 ^ n) → Tidy n made
+start-tidy n union made trims k beyond h =
+    trims k ∙ and-left (ltb k (2 ^ n)) (in-words union k) (le-ltb k (2 ^ n) beyond)

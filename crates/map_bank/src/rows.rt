@@ -15,6 +15,53 @@ ghost use Rattle.map_bank.specs.Rows.{Tidy};
 use crate::words::{has, literal_mask, meet_mask, put};
 use worlds::step::{Literal, Term};
 
+// Word k of the worlds that meet at least one term.
+fn union_mask(terms: &[Term], k: usize) -> u64
+    requires { ⌜ (every (every (speaks-within 10)) (map listed (now terms)) ≡ true) × (k < 16) ⌝ }
+    ensures { λ r. ⌜ ((n : ℕ) (w : World n) (b : ℕ) → b < 64 → number n w ≡ 64 * k + b → bit r b ≡ meets-some n w (map listed (now (terms .entry)))) ⌝ }
+{
+    let mut mask = 0;
+    for term in terms {
+        mask |= meet_mask(term.as_slice(), k);
+    }
+    mask
+}
+
+// The worlds that meet at least one term, with bits beyond the worlds of n conditions.
+fn union_row(terms: &[Term]) -> [u64; 16]
+    requires { ⌜ every (every (speaks-within 10)) (map listed (now terms)) ≡ true ⌝ }
+    ensures { λ r. ⌜ ((n : ℕ) → n ≤ 10 → (w : World n) → set-of n r w ≡ meets-some n w (map listed (now (terms .entry)))) ⌝ }
+{
+    let mut union = [0; 16];
+    for k in 0..16 {
+        union[k] = union_mask(terms, k);
+    }
+    union
+}
+
+// A row without the bits beyond the worlds of n conditions.
+fn trimmed(row: &[u64; 16], n: u16) -> [u64; 16]
+    requires { ⌜ n ≤ 10 ⌝ }
+    ensures { λ r. ⌜ ((k : ℕ) → in-words r k ≡ (ltb k (2 ^ n) && in-words (now (row .entry)) k)) ⌝ }
+{
+    let mut inside = [0; 16];
+    for world in 0..1usize << n {
+        if has(row, world) {
+            put(&mut inside, world);
+        }
+    }
+    inside
+}
+
+// The worlds of n conditions that meet at least one term.
+pub(crate) fn start_row(terms: &[Term], n: u16) -> [u64; 16]
+    requires { ⌜ (n ≤ 10) × (every (lawful-list n 32) (map listed (now terms)) ≡ true) ⌝ }
+    ensures worlds { λ r. ⌜ ((w : World n) → set-of n r w ≡ meets-some n w (map listed (now (terms .entry)))) ⌝ }
+    ensures tidy { λ r. ⌜ Tidy n r ⌝ }
+{
+    trimmed(&union_row(terms), n)
+}
+
 // Word k of the worlds in which a literal is so, or of those in which it is not.
 fn side_mask(literal: Literal, so: bool, k: usize) -> u64
     requires { ⌜ (speaks-within 10 literal ≡ true) × (k < 16) ⌝ }
