@@ -8,11 +8,11 @@ use Prim.Native.Nat.{ℕ, zero, suc, _+_, _-_, _*_, _/_, _%_, _^_, _≤_, _<_}
 use native.Mathlib.Nat.{pow-suc}
 use native.Mathlib.Numerals.{add-one}
 use native.Mathlib.Omega.{arith}
-use borrow.Author.Count.{below-none, below-more}
+use borrow.Author.Count.{below-more}
 use lib.Bits.{bitAnd, bitOr, and-le-l}
 use lib.Dec.{eqb, leb, ltb}
 use lib.IntN.{pos, negsuc}
-use lib.ListN.{length, getD, set, drop, replicate, length-set}
+use lib.ListN.{length, getD, set, drop, length-set}
 use lib.Pow.{pow-mono}
 use lib.Seq.{getD-set-same, getD-set-other, drop-cons, drop-length}
 use Rattle.std.proofs.shelf.Bits.{one-shl}
@@ -29,7 +29,7 @@ use Rattle.map_bank.specs.Rows.{Tidy}
 use Rattle.map_bank.proofs.BitLaws.{bit-and, bit-or, bit-lowest, bit-above, bit-zero, bit-complement, same-bits}
 use Rattle.map_bank.proofs.NumberLaws.{number-lt, number-below, number-of-world, holds-bits}
 use Rattle.map_bank.proofs.TruthTable.{same-value-is}
-use Rattle.map_bank.proofs.WordLaws.{every-from}
+use Rattle.map_bank.proofs.WordLaws.{or-none, every-from}
 
 -- ## A row made word by word
 
@@ -37,16 +37,14 @@ use Rattle.map_bank.proofs.WordLaws.{every-from}
 abbrev pub WordsTo : (ℕ → ℕ → Type 0) → List ℕ → ℕ → Type 0
 WordsTo rule words i = (length words ≡ 16) × ((j : ℕ) → j < i → rule j (getD words j 0))
 
-pub words-none : (rule : ℕ → ℕ → Type 0) (words : List ℕ) → length words ≡ 16 → WordsTo rule words 0
-words-none rule words long = (long, below-none (λ j. rule j (getD words j 0)))
-
 pub words-more : (rule : ℕ → ℕ → Type 0) (words : List ℕ) (i word : ℕ) → i < 16 → WordsTo rule words i → rule i word → WordsTo rule (set words i word) (i + 1)
 words-more rule words i word h first right =
-    let here : getD (set words i word) i 0 ≡ word = getD-set-same words i word 0 (omega arith) in
-    ( length-set words i word ∙ first .0
-    , below-more (λ j. rule j (getD (set words i word) j 0)) i
-      (λ j hj. subst (rule j) (sym (getD-set-other words i j word 0 (λ e. omega arith))) (first .1 j hj))
-      (subst (rule i) (sym here) right) )
+    let here : getD (set words i word) i 0 ≡ word = getD-set-same words i word 0 (omega arith) in (
+      length-set words i word ∙ first .0,
+      below-more (λ j. rule j (getD (set words i word) j 0)) i
+          (λ j hj. subst (rule j) (sym (getD-set-other words i j word 0 (λ e. omega arith))) (first .1 j hj))
+          (subst (rule i) (sym here) right),
+    )
 
 -- the word of a world number below 1024
 pub words-all : (rule : ℕ → ℕ → Type 0) (words : List ℕ) (i : ℕ) → 16 ≤ i → WordsTo rule words i → (k : ℕ) → k < 1024 → rule (k / 64) (getD words (k / 64) 0)
@@ -148,11 +146,11 @@ word-meets row list j mask small right none n w b hb is has =
 pub row-meets : (row : List ℕ) (list : List Literal) (i : ℕ) → 16 ≤ i → ((j : ℕ) → j < i → WordMeets row list j) → (n : ℕ) → n ≤ 10 → true ≡ all-meet n (set-of n row) list
 row-meets row list i end all n few =
     none-from n (λ w. set-of n row w && not (meets n w list)) (λ w passes.
-      let parts = and-parts (set-of n row w) (not (meets n w list)) passes in
-      let k = number n w in
-      let below : k < 1024 = number-below n w few in
-      let met : meets n w list ≡ true = all (k / 64) (omega arith) n w (k % 64) (omega arith) (sym (rejoined k)) (parts .0) in
-      both-ways (meets n w list) (not-true (meets n w list) (parts .1)) met)
+    let parts = and-parts (set-of n row w) (not (meets n w list)) passes in
+    let k = number n w in
+    let below : k < 1024 = number-below n w few in
+    let met : meets n w list ≡ true = all (k / 64) (omega arith) n w (k % 64) (omega arith) (sym (rejoined k)) (parts .0) in
+    both-ways (meets n w list) (not-true (meets n w list) (parts .1)) met)
 
 -- a bit of the row outside the word of the worlds that meet a list is a world that does not
 fails-at : (row : List ℕ) (list : List Literal) (j mask b : ℕ) → j < 16 → b < 64 → MeetWord list j mask → bit (getD row j 0) b ≡ true → not (bit mask b) ≡ true → (n : ℕ) → Tidy n row → false ≡ all-meet n (set-of n row) list
@@ -182,9 +180,9 @@ row-fails row list j mask hj fits small right some =
 pub row-none : (row : List ℕ) (i : ℕ) → 16 ≤ i → ((j : ℕ) → j < i → getD row j 0 ≡ 0) → (n : ℕ) → n ≤ 10 → true ≡ none-in n (set-of n row)
 row-none row i end all n few =
     none-from n (set-of n row) (λ w has.
-      let k = number n w in
-      let below : k < 1024 = number-below n w few in
-      both-ways (in-words row k) (ap (λ (x : ℕ). bit x (k % 64)) (all (k / 64) (omega arith)) ∙ bit-zero (k % 64)) has)
+    let k = number n w in
+    let below : k < 1024 = number-below n w few in
+    both-ways (in-words row k) (ap (λ (x : ℕ). bit x (k % 64)) (all (k / 64) (omega arith)) ∙ bit-zero (k % 64)) has)
 
 pub row-some : (row : List ℕ) (j : ℕ) → j < 16 → getD row j 0 < 2 ^ 64 → (getD row j 0 ≡ 0 → ⊥) → (n : ℕ) → Tidy n row → false ≡ none-in n (set-of n row)
 row-some row j hj fits some n tidy =
@@ -204,8 +202,8 @@ same-itself false = refl
 same-worlds : (n : ℕ) (s t : World n → Bool) → same-set n s t ≡ true → (w : World n) → s w ≡ t w
 same-worlds n s t same w =
     same-value-is (s w) (t w) (not-false (same-value (s w) (t w)) (cannot-pass (not (same-value (s w) (t w))) (λ differ.
-      let some : some-world n (λ v. not (same-value (s v) (t v))) ≡ true = some-world-from n (λ v. not (same-value (s v) (t v))) w differ in
-      both-ways (same-set n s t) (ap not some) same)))
+    let some : some-world n (λ v. not (same-value (s v) (t v))) ≡ true = some-world-from n (λ v. not (same-value (s v) (t v))) w differ in
+    both-ways (same-set n s t) (ap not some) same)))
 
 same-in-words : (n : ℕ) (a b : List ℕ) → Tidy n a → Tidy n b → same-set n (set-of n a) (set-of n b) ≡ true → (k : ℕ) → k < 1024 → in-words a k ≡ in-words b k
 same-in-words n a b tidy-a tidy-b same k h =
@@ -219,24 +217,20 @@ same-in-words n a b tidy-a tidy-b same k h =
 pub rows-from-sets : (n : ℕ) (a b : List ℕ) → length a ≡ 16 → length b ≡ 16 → ((i : ℕ) → getD a i 0 < 2 ^ 64) → ((i : ℕ) → getD b i 0 < 2 ^ 64) → Tidy n a → Tidy n b → same-set n (set-of n a) (set-of n b) ≡ true → a ≡ b
 rows-from-sets n a b long-a long-b fits-a fits-b tidy-a tidy-b same =
     ext-getD 0 a b (long-a ∙ sym long-b) (λ i hi.
-      same-bits (getD a i 0) (getD b i 0) (fits-a i) (fits-b i) (λ j hj.
-        sym (in-word a i j hj) ∙ same-in-words n a b tidy-a tidy-b same (64 * i + j) (omega arith) ∙ in-word b i j hj))
+    same-bits (getD a i 0) (getD b i 0) (fits-a i) (fits-b i) (λ j hj.
+    sym (in-word a i j hj) ∙ same-in-words n a b tidy-a tidy-b same (64 * i + j) (omega arith) ∙ in-word b i j hj))
 
 pub sets-from-rows : (n : ℕ) (a b : List ℕ) → a ≡ b → same-set n (set-of n a) (set-of n b) ≡ true
 sets-from-rows n a b same =
     subst (λ (c : List ℕ). same-set n (set-of n a) (set-of n c) ≡ true) same
     (sym (none-from n (λ w. not (same-value (set-of n a w) (set-of n a w))) (λ w differ.
-      both-ways (not (same-value (set-of n a w) (set-of n a w))) (ap not (same-itself (set-of n a w))) differ)))
+    both-ways (not (same-value (set-of n a w) (set-of n a w))) (ap not (same-itself (set-of n a w))) differ)))
 
 -- ## The worlds that meet at least one term
 
 or-regroups : (x y z : Bool) → (x || (y || z)) ≡ ((x || y) || z)
 or-regroups true y z = refl
 or-regroups false y z = refl
-
-or-nothing : (x : Bool) → (x || false) ≡ x
-or-nothing true = refl
-or-nothing false = refl
 
 -- a world meets some of the lists where its bit in word k is one or it meets some of the rest
 abbrev Joins : ℕ → ℕ → List (List Literal) → List (List Literal) → Type 0
@@ -254,10 +248,6 @@ joins-more mask more k lists rest list before right n w b hb is =
 abbrev pub JoinsFirst : ℕ → ℕ → List (List Literal) → ℕ → Type 0
 JoinsFirst mask k lists i = (every (every (speaks-within 10)) (drop i lists) ≡ true) × Joins mask k lists (drop i lists)
 
-pub joins-first-none : (k : ℕ) (lists : List (List Literal)) → every (every (speaks-within 10)) lists ≡ true → JoinsFirst 0 k lists 0
-joins-first-none k lists within =
-    (within, λ n w b hb is. ap (λ (x : Bool). x || meets-some n w lists) (sym (bit-zero b)))
-
 pub joins-first-within : (mask k : ℕ) (lists : List (List Literal)) (i : ℕ) → i < length lists → JoinsFirst mask k lists i → every (speaks-within 10) (getD lists i []) ≡ true
 joins-first-within mask k lists i h first = every-from (every (speaks-within 10)) lists i [] h (first .0) .0
 
@@ -265,9 +255,10 @@ pub joins-first-more : (mask more k : ℕ) (lists : List (List Literal)) (i : �
 joins-first-more mask more k lists i h first right =
     let here : Joins mask k lists (getD lists i [] ∷ drop (suc i) lists) =
     subst (λ (rest : List (List Literal)). Joins mask k lists rest) (drop-cons lists i [] h) (first .1) in
-    subst (JoinsFirst (bitOr mask more) k lists) (sym (add-one i))
-    ( every-from (every (speaks-within 10)) lists i [] h (first .0) .1
-    , joins-more mask more k lists (drop (suc i) lists) (getD lists i []) here right )
+    subst (JoinsFirst (bitOr mask more) k lists) (sym (add-one i)) (
+      every-from (every (speaks-within 10)) lists i [] h (first .0) .1,
+      joins-more mask more k lists (drop (suc i) lists) (getD lists i []) here right,
+    )
 
 -- word k of the worlds that meet some of the lists
 abbrev pub UnionWord : List (List Literal) → ℕ → ℕ → Type 0
@@ -276,7 +267,7 @@ UnionWord lists k word = (n : ℕ) (w : World n) (b : ℕ) → b < 64 → number
 pub joins-first-all : (mask k : ℕ) (lists : List (List Literal)) (i : ℕ) → i ≡ length lists → JoinsFirst mask k lists i → UnionWord lists k mask
 joins-first-all mask k lists i end first n w b hb is =
     let rest : drop i lists ≡ [] = ap (λ (j : ℕ). drop j lists) end ∙ drop-length lists in
-    sym (subst (λ (ls : List (List Literal)). Joins mask k lists ls) rest (first .1) n w b hb is ∙ or-nothing (bit mask b))
+    sym (subst (λ (ls : List (List Literal)). Joins mask k lists ls) rest (first .1) n w b hb is ∙ or-none (bit mask b))
 
 pub union-worlds : (lists : List (List Literal)) (made : List ℕ) (i : ℕ) → 16 ≤ i → WordsTo (UnionWord lists) made i → (n : ℕ) → n ≤ 10 → (w : World n) → set-of n made w ≡ meets-some n w lists
 union-worlds lists made i end first n few w =
@@ -295,16 +286,6 @@ few-worlds n few = pow-mono few
 -- of the numbers below i, a set has those that the row has, and no other
 abbrev pub TrimmedTo : List ℕ → List ℕ → ℕ → Type 0
 TrimmedTo row kept i = (k : ℕ) → in-words kept k ≡ (ltb k i && in-words row k)
-
-zeros : (m i : ℕ) → getD {A = ℕ} (replicate m 0) i 0 ≡ 0
-zeros zero i = refl
-zeros (suc m) zero = refl
-zeros (suc m) (suc i) = zeros m i
-
-pub trimmed-none : (row : List ℕ) → TrimmedTo row (replicate 16 0) 0
-trimmed-none row k =
-    ap (λ (x : ℕ). bit x (k % 64)) (zeros 16 (k / 64)) ∙ bit-zero (k % 64)
-    ∙ sym (and-left (ltb k 0) (in-words row k) (le-ltb k 0 (omega arith)))
 
 below-with : (k i : ℕ) (x : Bool) → (k ≡ i → x ≡ true) → ((ltb k i && x) || eqb k i) ≡ (ltb k (i + 1) && x)
 below-with k i x here = grind (arith, tells)
@@ -342,9 +323,9 @@ every-more test other more (x ∷ xs) all =
 pub lawful-speak : (n : ℕ) → n ≤ 10 → (lists : List (List Literal)) → every (lawful-list n 32) lists ≡ true → every (every (speaks-within 10)) lists ≡ true
 lawful-speak n few lists lawful =
     every-more (lawful-list n 32) (every (speaks-within 10)) (λ ls one.
-      let speaks = and-parts (leb (length ls) 32) (every (speaks-within n) ls && consistent ls) one .1 in
-      every-more (speaks-within n) (speaks-within 10) (speaks-more n 10 few) ls
-      (and-parts (every (speaks-within n) ls) (consistent ls) speaks .0))
+    let speaks = and-parts (leb (length ls) 32) (every (speaks-within n) ls && consistent ls) one .1 in
+    every-more (speaks-within n) (speaks-within 10) (speaks-more n 10 few) ls
+    (and-parts (every (speaks-within n) ls) (consistent ls) speaks .0))
     lists lawful
 
 pub start-worlds : (n : ℕ) (lists : List (List Literal)) (union made : List ℕ) → ((w : World n) → set-of n union w ≡ meets-some n w lists) → TrimmedTo union made (2 ^ n) → (w : World n) → set-of n made w ≡ meets-some n w lists

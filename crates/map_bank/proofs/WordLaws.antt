@@ -24,7 +24,7 @@ use Rattle.map_bank.proofs.NumberLaws.{holds-bits}
 
 -- ## Truth values
 
-or-none : (x : Bool) → (x || false) ≡ x
+pub or-none : (x : Bool) → (x || false) ≡ x
 or-none true = refl
 or-none false = refl
 

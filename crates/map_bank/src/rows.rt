@@ -12,8 +12,12 @@ ghost use Rattle.std.specs.Orderings.{Decides};
 ghost use Rattle.map_bank.specs.Bits.{bit};
 ghost use Rattle.map_bank.specs.Numbers.{number, number-holds, in-words, set-of};
 ghost use Rattle.map_bank.specs.Rows.{Tidy};
-use crate::words::{has, literal_mask, meet_mask, put};
-use worlds::step::{Literal, Term};
+use crate::words::has;
+use crate::words::literal_mask;
+use crate::words::meet_mask;
+use crate::words::put;
+use worlds::step::Literal;
+use worlds::step::Term;
 
 // Word k of the worlds that meet at least one term.
 fn union_mask(terms: &[Term], k: usize) -> u64
@@ -97,6 +101,7 @@ pub(crate) fn row_meets(row: &[u64; 16], list: &[Literal]) -> bool
     true
 }
 
+// Whether a row has no world.
 pub(crate) fn is_empty(row: &[u64; 16]) -> bool
     ensures { λ r. ⌜ ((n : ℕ) → n ≤ 10 → Tidy n (now (row .entry)) → r ≡ none-in n (set-of n (now (row .entry)))) ⌝ }
 {
@@ -108,6 +113,7 @@ pub(crate) fn is_empty(row: &[u64; 16]) -> bool
     true
 }
 
+// Whether two rows are the same, as tidy rows are exactly where their sets are.
 pub(crate) fn same_row(a: &[u64; 16], b: &[u64; 16]) -> bool
     ensures { λ r. ⌜ Decides r (now (a .entry) ≡ now (b .entry)) ⌝ }
 {

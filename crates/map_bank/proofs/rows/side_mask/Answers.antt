@@ -1,5 +1,5 @@
 -- Where the literal is not to be so, the word is the complement of the literal's word.
-use mathlib.Core.Path.{_≡_, _∙_, sym, ap}
+use mathlib.Core.Path.{_∙_, sym, ap}
 use mathlib.Core.Bool.{Bool}
 use Prim.Native.Nat.{_+_, _*_}
 use mir.Syntax.{w16}

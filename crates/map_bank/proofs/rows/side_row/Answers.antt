@@ -28,5 +28,5 @@ returns c =
     simp toZ-ofZ at (c .loop-k .inv) in
     record {
       worlds = side-worlds (c .args .row .now) (c .loop-k .side) (c .args .literal) (c .args .so) (c .loop-k .k) (c .pre) (omega arith) made;
-      tidy = side-tidy (c .args .row .now) (c .loop-k .side) (c .args .literal) (c .args .so) (c .loop-k .k) (omega arith) made
+      tidy = side-tidy (c .args .row .now) (c .loop-k .side) (c .args .literal) (c .args .so) (c .loop-k .k) (omega arith) made;
     }

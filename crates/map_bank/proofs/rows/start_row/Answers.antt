@@ -9,7 +9,7 @@ union-row-requires c κs = lawful-speak (c .args .n) (c .pre .0) (map listed (c 
 
 pub returns : need.returns
 returns c = record {
-      worlds = start-worlds (c .args .n) (map listed (c .args .terms .now)) (c .union-row .result) (c .trimmed .result)
-        (c .union-row .ensures (c .args .n) (c .pre .0)) (c .trimmed .ensures);
-      tidy = start-tidy (c .args .n) (c .union-row .result) (c .trimmed .result) (c .trimmed .ensures)
-    }
+  worlds = start-worlds (c .args .n) (map listed (c .args .terms .now)) (c .union-row .result) (c .trimmed .result)
+      (c .union-row .ensures (c .args .n) (c .pre .0)) (c .trimmed .ensures);
+  tidy = start-tidy (c .args .n) (c .union-row .result) (c .trimmed .result) (c .trimmed .ensures);
+}

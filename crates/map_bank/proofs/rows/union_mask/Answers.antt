@@ -20,11 +20,12 @@ pub meet-mask-mask-requires : need.meet-mask-mask-requires
 meet-mask-mask-requires c κs =
     let here : getD (map listed (c .args .terms .now)) (c .loop-term .term-index) [] ≡ c .as-slice .result .now =
     next listed (c .args .terms .now) (c .loop-term .term-index) (c .term-item .result) (c .as-slice .result .now)
-    (c .loop-term-test .taken) (c .term-item .is) (c .as-slice .ensures) in
-    ( subst (λ (list : List Literal). every (speaks-within 10) list ≡ true) here
-      (joins-first-within (c .loop-term .mask) (c .args .k) (map listed (c .args .terms .now)) (c .loop-term .term-index)
-      (simp length-map (omega arith)) (c .loop-term .inv))
-    , c .pre .1 )
+    (c .loop-term-test .taken) (c .term-item .is) (c .as-slice .ensures) in (
+      subst (λ (list : List Literal). every (speaks-within 10) list ≡ true) here
+          (joins-first-within (c .loop-term .mask) (c .args .k) (map listed (c .args .terms .now)) (c .loop-term .term-index)
+          (simp length-map (omega arith)) (c .loop-term .inv)),
+      c .pre .1,
+    )
 
 pub loop-term-again : need.loop-term-again
 loop-term-again c =
