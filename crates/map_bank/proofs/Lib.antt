@@ -1,4 +1,5 @@
 pub mod BitLaws
 pub mod NumberLaws
+pub mod SuccessorLaws
 pub mod TruthTable
 pub mod WordLaws

@@ -1,2 +1,3 @@
+mod successors;
 mod table;
 mod words;

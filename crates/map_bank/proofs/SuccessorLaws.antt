@@ -1,0 +1,162 @@
+-- The worlds that outcomes give from a set, by their numbers.
+-- Assumes nothing.
+use mathlib.Core.Path.{_≡_, refl, sym, _∙_, ap, ap₂, subst}
+use mathlib.Core.Bool.{Bool, true, false, not, _&&_, _||_, cond}
+use mathlib.Core.List.{List, [], _∷_, map}
+use mathlib.Core.Logic.{_⊎_, inl, inr}
+use Prim.Native.Nat.{ℕ, zero, suc, _+_, _-_, _*_, _/_, _%_, _^_, _≤_, _<_}
+use native.Mathlib.Nat.{lt-of-le-of-lt}
+use native.Mathlib.Omega.{arith}
+use lib.Bits.{bitAnd, bitOr, and-le-l, or-lt}
+use lib.Dec.{eqb, eqb·suc-suc, leb, ltb}
+use lib.IntN.{pos, negsuc, natAbs, negℤ-negℤ}
+use lib.Signed.{ltZ}
+use Rattle.std.proofs.shelf.Bits.{pow-below, one-shl}
+use Rattle.std.proofs.shelf.Tests.{both-ways, not-true, true≢false, false≢true, eqb-true, eq-eqb, ltb-true, ltb-false, lt-ltb, leb-true, le-leb, and-parts, and-from, or-cases, or-left, or-right}
+use Rattle.worlds.specs.Worlds.{World, value, world-by, Literal, opposite, same-literal, meets, speaks-within, consistent}
+use Rattle.worlds.specs.Steps.{Effect, Outcome, brings, after}
+use Rattle.worlds.specs.Sets.{same-value, same-world, may-give, successor}
+use Rattle.worlds.specs.Tickets.{every, lawful-list, lawful-effect, clashes-later, apart, lawful-outcome}
+use Rattle.worlds.proofs.Compatible.{same-tests, cannot-pass, same-literal-is, value-rest, value-by}
+use Rattle.worlds.proofs.TakeHold.{brought-by, met-clash, clashes-in}
+use Rattle.map_bank.specs.Bits.{bit}
+use Rattle.map_bank.specs.Numbers.{number, world-of, in-words, set-of}
+use Rattle.map_bank.specs.Rows.{Tidy}
+use Rattle.map_bank.specs.Successors.{made, gives, some-from}
+use Rattle.map_bank.proofs.BitLaws.{bit-and, bit-put, bit-power, bit-complement, same-bits-at}
+use Rattle.map_bank.proofs.NumberLaws.{number-lt, world-of-number, number-of-world, some-number, number-some, value-bit-suc}
+
+-- ## Worlds by rules
+
+-- rules that agree on conditions 1 to n give one world
+by-same : (n : ℕ) (f g : ℕ → Bool) → ((m : ℕ) → suc m ≤ n → f (suc m) ≡ g (suc m)) → world-by n f ≡ world-by n g
+by-same zero f g same = refl
+by-same (suc n) f g same =
+    ap₂ (λ (b : Bool) (v : World n). (b, v))
+    (same 0 (omega arith))
+    (by-same n (λ p. f (suc p)) (λ p. g (suc p)) (λ m h. same (suc m) (omega arith)))
+
+-- a world is the one by its own values
+by-values : (n : ℕ) (v : World n) → world-by n (value n v) ≡ v
+by-values zero v = refl
+by-values (suc n) v =
+    ap (λ (u : World n). (v .0, u))
+    (by-same n (λ p. value (suc n) v (suc p)) (value n (v .1)) (λ m h. value-rest n (v .0) (v .1) m) ∙ by-values n (v .1))
+
+-- ## One literal made so
+
+or-chosen : (x e : Bool) → (x || e) ≡ cond e true x
+or-chosen true true = refl
+or-chosen true false = refl
+or-chosen false true = refl
+or-chosen false false = refl
+
+and-chosen : (x e : Bool) → (x && not e) ≡ cond e false x
+and-chosen true true = refl
+and-chosen true false = refl
+and-chosen false true = refl
+and-chosen false false = refl
+
+-- the bits of a changed world's number are the values that the change gives
+made-bits : (n : ℕ) (l : Literal) (w : World n) (i : ℕ) → i < n → cond (same-literal (pos (suc i)) l) true (cond (same-literal (negsuc i) l) false (bit (number n w) i)) ≡ bit (number n (made n l w)) i
+made-bits n l w i h =
+    ap (λ (x : Bool). cond (same-literal (pos (suc i)) l) true (cond (same-literal (negsuc i) l) false x)) (sym (value-bit-suc n w i))
+    ∙ sym (value-by n (λ p. cond (same-literal (pos p) l) true (cond (same-literal (opposite (pos p)) l) false (value n w p))) i h)
+    ∙ value-bit-suc n (made n l w) i
+
+-- `world | 1 << p`
+made-true : (n p : ℕ) (w : World n) → suc p ≤ n → bitOr (number n w) (2 ^ p) ≡ number n (made n (pos (suc p)) w)
+made-true n p w h =
+    same-bits-at n _ _ (or-lt n _ _ (number-lt n w) (pow-below p n h)) (number-lt n _)
+    (λ i hi.
+        bit-put (number n w) p i ∙ or-chosen (bit (number n w) i) (eqb i p)
+        ∙ ap (λ (e : Bool). cond e true (bit (number n w) i)) (sym (eqb·suc-suc i p))
+        ∙ made-bits n (pos (suc p)) w i hi)
+
+-- `world & !(1 << m)`
+made-false : (n m : ℕ) (w : World n) → n ≤ 10 → suc m ≤ n → bitAnd (number n w) (2 ^ 64 - 1 - 2 ^ m) ≡ number n (made n (negsuc m) w)
+made-false n m w small h =
+    same-bits-at n _ _ (lt-of-le-of-lt (and-le-l _ _) (number-lt n w)) (number-lt n _)
+    (λ i hi.
+        bit-and (number n w) (2 ^ 64 - 1 - 2 ^ m) i
+        ∙ ap (λ (b : Bool). bit (number n w) i && b) (bit-complement (2 ^ m) i (pow-below m 64 (omega arith)) (omega arith) ∙ ap not (bit-power m i))
+        ∙ and-chosen (bit (number n w) i) (eqb i m)
+        ∙ made-bits n (negsuc m) w i hi)
+
+-- the power that the code shifts to
+shifted : (size p : ℕ) → size ≡ suc p → p < 64 → (1 * 2 ^ (size - 1)) % 2 ^ 64 ≡ 2 ^ p
+shifted size p is h =
+    let before : size - 1 ≡ p = omega arith in
+    ap (λ (q : ℕ). (1 * 2 ^ q) % 2 ^ 64) before ∙ one-shl p 64 h
+
+-- what the code gives for a literal that says its condition is true
+pub changed-true : (l : Literal) (size world : ℕ) → ltZ (pos 0) l ≡ true → size ≡ natAbs l → (n : ℕ) (w : World n) → n ≤ 10 → speaks-within n l ≡ true → number n w ≡ world → bitOr world ((1 * 2 ^ (size - 1)) % 2 ^ 64) ≡ number n (made n l w)
+changed-true (pos zero) size world so is n w small within number-is = absurd (false≢true within)
+changed-true (pos (suc p)) size world so is n w small within number-is =
+    let inside : suc p ≤ n = leb-true (suc p) n (and-parts (ltb 0 (suc p)) (leb (suc p) n) within .1) in
+    ap₂ bitOr (sym number-is) (shifted size p is (omega arith)) ∙ made-true n p w inside
+changed-true (negsuc m) size world so is n w small within number-is = absurd (false≢true so)
+
+-- and for one that says it is false
+pub changed-false : (l : Literal) (size world : ℕ) → ltZ (pos 0) l ≡ false → size ≡ natAbs l → (n : ℕ) (w : World n) → n ≤ 10 → speaks-within n l ≡ true → number n w ≡ world → bitAnd world (2 ^ 64 - 1 - (1 * 2 ^ (size - 1)) % 2 ^ 64) ≡ number n (made n l w)
+changed-false (pos zero) size world denied is n w small within number-is = absurd (false≢true within)
+changed-false (pos (suc p)) size world denied is n w small within number-is =
+    let none : suc p ≤ 0 = ltb-false 0 (suc p) denied in
+    absurd (omega arith)
+changed-false (negsuc m) size world denied is n w small within number-is =
+    let inside : suc m ≤ n = leb-true (suc m) n within in
+    ap₂ (λ (x y : ℕ). bitAnd x (2 ^ 64 - 1 - y)) (sym number-is) (shifted size m is (omega arith)) ∙ made-false n m w small inside
+
+-- ## The effects of an outcome, one after another
+
+-- the world in which, from v on, the results of all effects that w meets have taken hold
+abbrev later-rule : (n : ℕ) → Outcome → World n → World n → ℕ → Bool
+later-rule n es w v p = cond (brings n es w (pos p)) true (cond (brings n es w (opposite (pos p))) false (value n v p))
+
+abbrev pub later : (n : ℕ) → Outcome → World n → World n → World n
+later n es w v = world-by n (later-rule n es w v)
+
+pub later-none : (n : ℕ) (w v : World n) → later n [] w v ≡ v
+later-none n w v = by-values n v
+
+-- an effect that is not met changes nothing
+pub later-skip : (n : ℕ) (e : Effect) (es : Outcome) (w v : World n) → meets n w (e .conditions) ≡ false → later n (e ∷ es) w v ≡ later n es w v
+later-skip n e es w v unmet =
+    ap (λ (b : Bool). world-by n (λ p. cond ((b && same-literal (pos p) (e .result)) || brings n es w (pos p)) true (cond ((b && same-literal (opposite (pos p)) (e .result)) || brings n es w (opposite (pos p))) false (value n v p)))) unmet
+
+-- of two results for one condition that do not contradict each other, the order does not matter
+any-order : (sp sn bp bn x : Bool) → (sp ≡ true → bn ≡ false) → (sn ≡ true → bp ≡ false) → cond (sp || bp) true (cond (sn || bn) false x) ≡ cond bp true (cond bn false (cond sp true (cond sn false x)))
+any-order true sn true bn x no-bn no-bp = refl
+any-order true sn false true x no-bn no-bp = absurd (true≢false (no-bn refl))
+any-order true sn false false x no-bn no-bp = refl
+any-order false true true bn x no-bn no-bp = absurd (true≢false (no-bp refl))
+any-order false true false true x no-bn no-bp = refl
+any-order false true false false x no-bn no-bp = refl
+any-order false false true bn x no-bn no-bp = refl
+any-order false false false true x no-bn no-bp = refl
+any-order false false false false x no-bn no-bp = refl
+
+-- no later effect that is met brings the opposite of what an effect that is met brings
+not-against : (n : ℕ) (e : Effect) (es : Outcome) (w : World n) → apart n (e ∷ es) ≡ true → meets n w (e .conditions) ≡ true → brings n es w (opposite (e .result)) ≡ false
+not-against n e es w fine met =
+    let parts = and-parts (not (clashes-later n e es)) (apart n es) fine in
+    cannot-pass _
+    (λ brought.
+        let found = brought-by n es w (opposite (e .result)) brought in
+        let back : opposite (found .0 .result) ≡ e .result = ap opposite (found .3) ∙ negℤ-negℤ (e .result) in
+        both-ways _ (not-true _ (parts .0))
+        (clashes-in n e es (found .0) (found .1) (met-clash n w e (found .0) met (found .2) back)))
+
+-- an effect that is met makes its result so before the rest
+pub later-take : (n : ℕ) (e : Effect) (es : Outcome) (w v : World n) → apart n (e ∷ es) ≡ true → meets n w (e .conditions) ≡ true → later n (e ∷ es) w v ≡ later n es w (made n (e .result) v)
+later-take n e es w v fine met =
+    let l : Literal = e .result in
+    let against : brings n es w (opposite l) ≡ false = not-against n e es w fine met in
+    let rule : ℕ → Bool = λ p. cond (same-literal (pos p) l) true (cond (same-literal (opposite (pos p)) l) false (value n v p)) in
+    ap (λ (b : Bool). world-by n (λ p. cond ((b && same-literal (pos p) l) || brings n es w (pos p)) true (cond ((b && same-literal (opposite (pos p)) l) || brings n es w (opposite (pos p))) false (value n v p)))) met
+    ∙ by-same n (λ p. cond (same-literal (pos p) l || brings n es w (pos p)) true (cond (same-literal (opposite (pos p)) l || brings n es w (opposite (pos p))) false (value n v p))) (later-rule n es w (made n l v))
+    (λ m h.
+        any-order (same-literal (pos (suc m)) l) (same-literal (negsuc m) l) (brings n es w (pos (suc m))) (brings n es w (negsuc m)) (value n v (suc m))
+        (λ same. subst (λ (k : Literal). brings n es w (opposite k) ≡ false) (sym (same-literal-is (pos (suc m)) l same)) against)
+        (λ same. subst (λ (k : Literal). brings n es w (opposite k) ≡ false) (sym (same-literal-is (negsuc m) l same)) against)
+        ∙ ap (λ (x : Bool). cond (brings n es w (pos (suc m))) true (cond (brings n es w (negsuc m)) false x)) (sym (value-by n rule m h)))
