@@ -6,13 +6,19 @@ use mathlib.Core.List.{List, [], _∷_, map}
 use mathlib.Core.Logic.{_⊎_, inl, inr}
 use Prim.Native.Nat.{ℕ, zero, suc, _+_, _-_, _*_, _/_, _%_, _^_, _≤_, _<_}
 use native.Mathlib.Nat.{lt-of-le-of-lt}
+use native.Mathlib.Numerals.{add-one}
 use native.Mathlib.Omega.{arith}
 use lib.Bits.{bitAnd, bitOr, and-le-l, or-lt}
 use lib.Dec.{eqb, eqb·suc-suc, leb, ltb}
+use lib.ListN.{length, getD, set, drop}
+use lib.Seq.{getD-set-same, getD-set-other, drop-cons, drop-length}
 use lib.IntN.{pos, negsuc, natAbs, negℤ-negℤ}
 use lib.Signed.{ltZ}
 use Rattle.std.proofs.shelf.Bits.{pow-below, one-shl}
-use Rattle.std.proofs.shelf.Tests.{both-ways, not-true, true≢false, false≢true, eqb-true, eq-eqb, ltb-true, ltb-false, lt-ltb, leb-true, le-leb, and-parts, and-from, or-cases, or-left, or-right}
+use Rattle.std.proofs.shelf.Tests.{cases-eq, both-ways, not-true, true≢false, false≢true, eqb-true, eq-eqb, ltb-true, ltb-false, lt-ltb, leb-true, le-leb, and-parts, and-from, or-cases, or-left, or-right}
+use Rattle.worlds.specs.declared.step.Effect as code-effect
+use Rattle.worlds.specs.declared.step.Outcome as code-outcome
+use Rattle.worlds.specs.Meaning.{effect-of, outcome-of, listed}
 use Rattle.worlds.specs.Worlds.{World, value, world-by, Literal, opposite, same-literal, meets, speaks-within, consistent}
 use Rattle.worlds.specs.Steps.{Effect, Outcome, brings, after}
 use Rattle.worlds.specs.Sets.{same-value, same-world, may-give, successor}
@@ -22,8 +28,8 @@ use Rattle.worlds.proofs.TakeHold.{brought-by, met-clash, clashes-in}
 use Rattle.map_bank.specs.Bits.{bit}
 use Rattle.map_bank.specs.Numbers.{number, world-of, in-words, set-of}
 use Rattle.map_bank.specs.Rows.{Tidy}
-use Rattle.map_bank.specs.Successors.{made, gives, some-from}
-use Rattle.map_bank.proofs.BitLaws.{bit-and, bit-put, bit-power, bit-complement, same-bits-at}
+use Rattle.map_bank.specs.Successors.{made, Masked, gives, some-from}
+use Rattle.map_bank.proofs.BitLaws.{bit-and, bit-put, bit-power, bit-complement, same-bits-at, shift-test}
 use Rattle.map_bank.proofs.NumberLaws.{number-lt, world-of-number, number-of-world, some-number, number-some, value-bit-suc}
 
 -- ## Worlds by rules
@@ -160,3 +166,115 @@ later-take n e es w v fine met =
         (λ same. subst (λ (k : Literal). brings n es w (opposite k) ≡ false) (sym (same-literal-is (pos (suc m)) l same)) against)
         (λ same. subst (λ (k : Literal). brings n es w (opposite k) ≡ false) (sym (same-literal-is (negsuc m) l same)) against)
         ∙ ap (λ (x : Bool). cond (brings n es w (pos (suc m))) true (cond (brings n es w (negsuc m)) false x)) (sym (value-by n rule m h)))
+
+-- ## The effects that the code keeps
+
+-- what all of a list pass, the element at a place passes
+every-at : {X Y : Type 0} (test : Y → Bool) (f : X → Y) (xs : List X) (i : ℕ) (d : X) → i < length xs → every test (map f xs) ≡ true → test (f (getD xs i d)) ≡ true
+every-at test f [] i d h all = absurd (omega arith)
+every-at test f (x ∷ xs) zero d h all = and-parts (test (f x)) (every test (map f xs)) all .0
+every-at test f (x ∷ xs) (suc i) d h all =
+    every-at test f xs i d (omega arith) (and-parts (test (f x)) (every test (map f xs)) all .1)
+
+-- the conditions of a lawful effect, and its result, speak of conditions 1 to n
+pub conditions-within : (n : ℕ) (e : Effect) → lawful-effect n e ≡ true → every (speaks-within n) (e .conditions) ≡ true
+conditions-within n e fine =
+    let list = and-parts (lawful-list n 4 (e .conditions)) (speaks-within n (e .result)) fine .0 in
+    let lists = and-parts (leb (length (e .conditions)) 4) (every (speaks-within n) (e .conditions) && consistent (e .conditions)) list .1 in
+    and-parts (every (speaks-within n) (e .conditions)) (consistent (e .conditions)) lists .0
+
+pub result-within : (n : ℕ) (e : Effect) → lawful-effect n e ≡ true → speaks-within n (e .result) ≡ true
+result-within n e fine = and-parts (lawful-list n 4 (e .conditions)) (speaks-within n (e .result)) fine .1
+
+pub effect-at : (n : ℕ) (effects : List code-effect.Effect) (i : ℕ) (d : code-effect.Effect) → i < length effects → every (lawful-effect n) (map effect-of effects) ≡ true → lawful-effect n (effect-of (getD effects i d)) ≡ true
+effect-at n effects i d h all = every-at (lawful-effect n) effect-of effects i d h all
+
+-- what stands at a place that a list has does not depend on the default
+getD-any : {X : Type 0} (xs : List X) (i : ℕ) (d e : X) → i < length xs → getD xs i d ≡ getD xs i e
+getD-any [] i d e h = absurd (omega arith)
+getD-any (x ∷ xs) zero d e h = refl
+getD-any (x ∷ xs) (suc i) d e h = getD-any xs i d e (omega arith)
+
+-- the masks of the first effects are right
+abbrev pub MaskedFirst : ℕ → ℕ → List code-effect.Effect → List ℕ → Type 0
+MaskedFirst many k effects masks =
+    (i : ℕ) (d : code-effect.Effect) → i < many → i < length effects → (n : ℕ) (w : World n) (b : ℕ) → b < 64 → number n w ≡ 64 * k + b →
+    bit (getD masks i 0) b ≡ meets n w (listed (getD effects i d .conditions))
+
+pub masked-more : (k i v : ℕ) (effects : List code-effect.Effect) (masks : List ℕ) (e : code-effect.Effect) → i < length masks → MaskedFirst i k effects masks → ((n : ℕ) (w : World n) (b : ℕ) → b < 64 → number n w ≡ 64 * k + b → bit v b ≡ meets n w (listed (getD effects i e .conditions))) → MaskedFirst (i + 1) k effects (set masks i v)
+masked-more k i v effects masks e room first right j d hj hl n w b hb is =
+    elim (cases-eq j i) [
+      | inl same ↦
+          let here : getD (set masks i v) j 0 ≡ v =
+          subst (λ (q : ℕ). getD (set masks i v) q 0 ≡ v) (sym same) (getD-set-same masks i v 0 room) in
+          let met : bit v b ≡ meets n w (listed (getD effects j e .conditions)) =
+          subst (λ (q : ℕ). bit v b ≡ meets n w (listed (getD effects q e .conditions))) (sym same) (right n w b hb is) in
+          ap (λ (x : ℕ). bit x b) here ∙ met
+          ∙ ap (λ (x : code-effect.Effect). meets n w (listed (x .conditions))) (getD-any effects j e d hl)
+      | inr other ↦
+          ap (λ (x : ℕ). bit x b) (getD-set-other masks i j v 0 other)
+          ∙ first j d (omega arith) hl n w b hb is
+    ]
+
+-- ## The effects that the code takes
+
+-- the world that has taken some of an outcome's effects: the rest has yet to take hold
+abbrev TakenRest : ℕ → List code-effect.Effect → List code-effect.Effect → ℕ → Type 0
+TakenRest world effects rest next =
+    (n : ℕ) (w : World n) → n ≤ 10 → every (lawful-effect n) (map effect-of effects) ≡ true → apart n (map effect-of effects) ≡ true → number n w ≡ world →
+    (v : World n) × (next ≡ number n v) × (apart n (map effect-of rest) ≡ true) × (later n (map effect-of rest) w v ≡ after n (map effect-of effects) w)
+
+-- the world that has taken the first i effects
+abbrev pub Taken : ℕ → List code-effect.Effect → ℕ → ℕ → Type 0
+Taken world effects i next = TakenRest world effects (drop i effects) next
+
+-- whether a world meets the effect at a place
+abbrev Meets-at : ℕ → List code-effect.Effect → ℕ → code-effect.Effect → Bool → Type 0
+Meets-at world effects i d met = (n : ℕ) (w : World n) → number n w ≡ world → meets n w (listed (getD effects i d .conditions)) ≡ met
+
+-- the masks tell
+pub met-by-mask : (world : ℕ) (effects : List code-effect.Effect) (masks : List ℕ) (i : ℕ) (d : code-effect.Effect) (met : Bool) → i < length effects → Masked (world / 64) effects masks → eqb (bitAnd (getD masks i 0 / 2 ^ (world % 64)) 1) 1 ≡ met → Meets-at world effects i d met
+met-by-mask world effects masks i d met h right test n w is =
+    let split : number n w ≡ 64 * (world / 64) + world % 64 = omega arith in
+    sym (right i d h n w (world % 64) (omega arith) split) ∙ sym (shift-test (getD masks i 0) (world % 64)) ∙ test
+
+pub taken-none : (world : ℕ) (effects : List code-effect.Effect) → Taken world effects 0 world
+taken-none world effects n w small fine clear is = (w, sym is, clear, refl)
+
+rest-skip : (world next : ℕ) (effects rest : List code-effect.Effect) (e : code-effect.Effect) → TakenRest world effects (e ∷ rest) next → ((n : ℕ) (w : World n) → number n w ≡ world → meets n w (listed (e .conditions)) ≡ false) → TakenRest world effects rest next
+rest-skip world next effects rest e before unmet n w small fine clear is =
+    let was = before n w small fine clear is in
+    let parts = and-parts (not (clashes-later n (effect-of e) (map effect-of rest))) (apart n (map effect-of rest)) (was .2) in
+    (was .0, was .1, parts .1, sym (later-skip n (effect-of e) (map effect-of rest) w (was .0) (unmet n w is)) ∙ was .3)
+
+rest-take : (world next new : ℕ) (effects rest : List code-effect.Effect) (e : code-effect.Effect) → TakenRest world effects (e ∷ rest) next → ((n : ℕ) (w : World n) → number n w ≡ world → meets n w (listed (e .conditions)) ≡ true) → ((n : ℕ) → every (lawful-effect n) (map effect-of effects) ≡ true → speaks-within n (e .result) ≡ true) → ((n : ℕ) (v : World n) → n ≤ 10 → speaks-within n (e .result) ≡ true → number n v ≡ next → new ≡ number n (made n (e .result) v)) → TakenRest world effects rest new
+rest-take world next new effects rest e before met within change n w small fine clear is =
+    let was = before n w small fine clear is in
+    let parts = and-parts (not (clashes-later n (effect-of e) (map effect-of rest))) (apart n (map effect-of rest)) (was .2) in (
+      made n (e .result) (was .0),
+      change n (was .0) small (within n fine) (sym (was .1)),
+      parts .1,
+      sym (later-take n (effect-of e) (map effect-of rest) w (was .0) (was .2) (met n w is)) ∙ was .3,
+    )
+
+-- the effect at a place stands first in the rest
+taken-first : (world next : ℕ) (effects : List code-effect.Effect) (i : ℕ) (d : code-effect.Effect) → i < length effects → Taken world effects i next → TakenRest world effects (getD effects i d ∷ drop (suc i) effects) next
+taken-first world next effects i d h before =
+    subst (λ (rest : List code-effect.Effect). TakenRest world effects rest next) (drop-cons effects i d h) before
+
+pub taken-skip : (world next : ℕ) (effects : List code-effect.Effect) (i : ℕ) (d : code-effect.Effect) → i < length effects → Taken world effects i next → Meets-at world effects i d false → Taken world effects (i + 1) next
+taken-skip world next effects i d h before unmet =
+    subst (λ (j : ℕ). Taken world effects j next) (sym (add-one i))
+    (rest-skip world next effects (drop (suc i) effects) (getD effects i d) (taken-first world next effects i d h before) unmet)
+
+pub taken-more : (world next new : ℕ) (effects : List code-effect.Effect) (i : ℕ) (d : code-effect.Effect) → i < length effects → Taken world effects i next → Meets-at world effects i d true → ((n : ℕ) (v : World n) → n ≤ 10 → speaks-within n (getD effects i d .result) ≡ true → number n v ≡ next → new ≡ number n (made n (getD effects i d .result) v)) → Taken world effects (i + 1) new
+taken-more world next new effects i d h before met change =
+    subst (λ (j : ℕ). Taken world effects j new) (sym (add-one i))
+    (rest-take world next new effects (drop (suc i) effects) (getD effects i d) (taken-first world next effects i d h before) met
+    (λ n fine. result-within n (effect-of (getD effects i d)) (effect-at n effects i d h fine)) change)
+
+pub taken-all : (world next : ℕ) (effects : List code-effect.Effect) (i : ℕ) → i ≡ length effects → Taken world effects i next → (n : ℕ) (w : World n) → n ≤ 10 → every (lawful-effect n) (map effect-of effects) ≡ true → apart n (map effect-of effects) ≡ true → number n w ≡ world → next ≡ number n (after n (map effect-of effects) w)
+taken-all world next effects i end all n w small fine clear is =
+    let none : drop i effects ≡ [] = ap (λ (j : ℕ). drop j effects) end ∙ drop-length effects in
+    let was = subst (λ (rest : List code-effect.Effect). TakenRest world effects rest next) none all n w small fine clear is in
+    was .1 ∙ ap (number n) (sym (later-none n w (was .0)) ∙ was .3)
