@@ -5,17 +5,18 @@ use mathlib.Core.Bool.{Bool, true, false, not, _&&_, _||_, cond}
 use mathlib.Core.List.{List, [], _∷_, map}
 use mathlib.Core.Logic.{_⊎_, inl, inr}
 use Prim.Native.Nat.{ℕ, zero, suc, _+_, _-_, _*_, _/_, _%_, _^_, _≤_, _<_}
-use native.Mathlib.Nat.{lt-of-le-of-lt}
+use native.Mathlib.Nat.{add-zero, add-suc, add-assoc, lt-of-le-of-lt, lt-of-lt-of-le}
 use native.Mathlib.Numerals.{add-one}
 use native.Mathlib.Omega.{arith}
 use lib.Bits.{bitAnd, bitOr, and-le-l, or-lt}
 use lib.Dec.{eqb, eqb·suc-suc, leb, ltb}
-use lib.ListN.{length, getD, set, drop}
+use lib.ListN.{length, getD, set, drop, replicate, length-map}
+use lib.Pow.{pow-mono}
 use lib.Seq.{getD-set-same, getD-set-other, drop-cons, drop-length}
 use lib.IntN.{pos, negsuc, natAbs, negℤ-negℤ}
 use lib.Signed.{ltZ}
 use Rattle.std.proofs.shelf.Bits.{pow-below, one-shl}
-use Rattle.std.proofs.shelf.Tests.{cases-eq, both-ways, not-true, true≢false, false≢true, eqb-true, eq-eqb, ltb-true, ltb-false, lt-ltb, leb-true, le-leb, and-parts, and-from, or-cases, or-left, or-right}
+use Rattle.std.proofs.shelf.Tests.{cases-eq, both-ways, not-true, true≢false, false≢true, eqb-true, eq-eqb, ltb-true, ltb-false, lt-ltb, leb-true, le-leb, and-parts, and-from, or-cases, or-from, or-left, or-right}
 use Rattle.worlds.specs.declared.step.Effect as code-effect
 use Rattle.worlds.specs.declared.step.Outcome as code-outcome
 use Rattle.worlds.specs.Meaning.{effect-of, outcome-of, listed}
@@ -29,8 +30,9 @@ use Rattle.map_bank.specs.Bits.{bit}
 use Rattle.map_bank.specs.Numbers.{number, world-of, in-words, set-of}
 use Rattle.map_bank.specs.Rows.{Tidy}
 use Rattle.map_bank.specs.Successors.{made, Masked, gives, some-from}
-use Rattle.map_bank.proofs.BitLaws.{bit-and, bit-put, bit-power, bit-complement, same-bits-at, shift-test}
+use Rattle.map_bank.proofs.BitLaws.{bit-and, bit-zero, bit-put, bit-power, bit-complement, same-bits-at, shift-test}
 use Rattle.map_bank.proofs.NumberLaws.{number-lt, world-of-number, number-of-world, some-number, number-some, value-bit-suc}
+use Rattle.map_bank.proofs.WordLaws.{or-none}
 
 -- ## Worlds by rules
 
@@ -278,3 +280,279 @@ taken-all world next effects i end all n w small fine clear is =
     let none : drop i effects ≡ [] = ap (λ (j : ℕ). drop j effects) end ∙ drop-length effects in
     let was = subst (λ (rest : List code-effect.Effect). TakenRest world effects rest next) none all n w small fine clear is in
     was .1 ∙ ap (number n) (sym (later-none n w (was .0)) ∙ was .3)
+
+-- ## Lawful among ten conditions
+
+speaks-ten : (n : ℕ) (l : Literal) → n ≤ 10 → speaks-within n l ≡ true → speaks-within 10 l ≡ true
+speaks-ten n (pos p) small within =
+    let parts = and-parts (ltb 0 p) (leb p n) within in
+    let low : p ≤ n = leb-true p n (parts .1) in
+    and-from _ _ (parts .0) (le-leb p 10 (omega arith))
+speaks-ten n (negsuc m) small within =
+    let low : suc m ≤ n = leb-true (suc m) n within in
+    le-leb (suc m) 10 (omega arith)
+
+-- where each that passes one test passes another, a list that passes the one passes the other
+every-also : {X : Type 0} (test other : X → Bool) → ((x : X) → test x ≡ true → other x ≡ true) → (xs : List X) → every test xs ≡ true → every other xs ≡ true
+every-also test other also [] all = refl
+every-also test other also (x ∷ xs) all =
+    let parts = and-parts (test x) (every test xs) all in
+    and-from _ _ (also x (parts .0)) (every-also test other also xs (parts .1))
+
+effect-ten : (n : ℕ) (e : Effect) → n ≤ 10 → lawful-effect n e ≡ true → lawful-effect 10 e ≡ true
+effect-ten n e small fine =
+    let parts = and-parts (lawful-list n 4 (e .conditions)) (speaks-within n (e .result)) fine in
+    let list = and-parts (leb (length (e .conditions)) 4) (every (speaks-within n) (e .conditions) && consistent (e .conditions)) (parts .0) in
+    let lists = and-parts (every (speaks-within n) (e .conditions)) (consistent (e .conditions)) (list .1) in
+    let within = every-also (speaks-within n) (speaks-within 10) (λ l h. speaks-ten n l small h) (e .conditions) (lists .0) in
+    and-from _ _ (and-from _ _ (list .0) (and-from _ _ within (lists .1))) (speaks-ten n (e .result) small (parts .1))
+
+-- what a lawful outcome is: few effects, each lawful, none against another
+pub lawful-few : (n : ℕ) (effects : List code-effect.Effect) → lawful-outcome n (map effect-of effects) ≡ true → length effects ≤ 4
+lawful-few n effects fine =
+    let o : Outcome = map effect-of effects in
+    let few : length o ≤ 4 = leb-true (length o) 4 (and-parts (leb (length o) 4) (every (lawful-effect n) o && apart n o) fine .0) in
+    subst (λ (m : ℕ). m ≤ 4) (length-map effects effect-of) few
+
+pub lawful-effects : (n : ℕ) (o : Outcome) → lawful-outcome n o ≡ true → every (lawful-effect n) o ≡ true
+lawful-effects n o fine =
+    and-parts (every (lawful-effect n) o) (apart n o) (and-parts (leb (length o) 4) (every (lawful-effect n) o && apart n o) fine .1) .0
+
+pub lawful-apart : (n : ℕ) (o : Outcome) → lawful-outcome n o ≡ true → apart n o ≡ true
+lawful-apart n o fine =
+    and-parts (every (lawful-effect n) o) (apart n o) (and-parts (leb (length o) 4) (every (lawful-effect n) o && apart n o) fine .1) .1
+
+pub lawful-ten : (n : ℕ) (o : Outcome) → n ≤ 10 → lawful-outcome n o ≡ true → every (lawful-effect 10) o ≡ true
+lawful-ten n o small fine = every-also (lawful-effect n) (lawful-effect 10) (λ e h. effect-ten n e small h) o (lawful-effects n o fine)
+
+-- ## Whether one of some numbers passes a test
+
+or-regroups : (x y z : Bool) → (x || (y || z)) ≡ ((x || y) || z)
+or-regroups true y z = refl
+or-regroups false y z = refl
+
+some-none : (start : ℕ) (test : ℕ → Bool) → some-from start 0 test ≡ false
+unfolding some-from
+some-none start test = refl
+
+some-more : (start m : ℕ) (test : ℕ → Bool) → some-from start (suc m) test ≡ (some-from start m test || test (start + m))
+unfolding some-from
+some-more start m test = refl
+
+some-split : (start m p : ℕ) (test : ℕ → Bool) → some-from start (m + p) test ≡ (some-from start m test || some-from (start + m) p test)
+some-split start m zero test =
+    ap (λ (q : ℕ). some-from start q test) (add-zero m)
+    ∙ sym (or-none (some-from start m test)) ∙ ap (λ (b : Bool). some-from start m test || b) (sym (some-none (start + m) test))
+some-split start m (suc p) test =
+    ap (λ (q : ℕ). some-from start q test) (add-suc m p) ∙ some-more start (m + p) test
+    ∙ ap₂ (λ (a b : Bool). a || b) (some-split start m p test) (ap test (sym (add-assoc start m p)))
+    ∙ sym (or-regroups (some-from start m test) (some-from (start + m) p test) (test (start + m + p)))
+    ∙ ap (λ (b : Bool). some-from start m test || b) (sym (some-more (start + m) p test))
+
+-- one that passes, where some does
+some-found : (m : ℕ) (test : ℕ → Bool) → some-from 0 m test ≡ true → (j : ℕ) × (test j ≡ true)
+some-found zero test some = absurd (false≢true (sym (some-none 0 test) ∙ some))
+some-found (suc m) test some =
+    elim (or-cases (some-from 0 m test) (test (0 + m)) (sym (some-more 0 m test) ∙ some)) [
+      | inl before ↦ some-found m test before
+      | inr here ↦ (0 + m, here)
+    ]
+
+some-by : (m : ℕ) (test : ℕ → Bool) (j : ℕ) → j < m → test j ≡ true → some-from 0 m test ≡ true
+some-by zero test j h passes = absurd (omega arith)
+some-by (suc m) test j h passes =
+    elim (cases-eq j m) [
+      | inl same ↦
+          let is : j ≡ 0 + m = omega arith in
+          some-more 0 m test ∙ or-right (some-from 0 m test) _ (subst (λ (i : ℕ). test i ≡ true) is passes)
+      | inr other ↦ some-more 0 m test ∙ or-left _ _ (some-by m test j (omega arith) passes)
+    ]
+
+-- ## The worlds that an outcome gives, put one after another
+
+-- new has what old has, and what an outcome gives from m worlds of a row
+abbrev pub Puts : (n : ℕ) → Outcome → List ℕ → ℕ → ℕ → List ℕ → List ℕ → Type 0
+Puts n o row start m old new = (x : ℕ) → in-words new x ≡ (in-words old x || some-from start m (gives n o row x))
+
+pub puts-none : (n : ℕ) (o : Outcome) (row : List ℕ) (start : ℕ) (old : List ℕ) → Puts n o row start 0 old old
+puts-none n o row start old x =
+    sym (or-none (in-words old x)) ∙ ap (λ (b : Bool). in-words old x || b) (sym (some-none start (gives n o row x)))
+
+-- one world more
+puts-more : (n : ℕ) (o : Outcome) (row : List ℕ) (start m : ℕ) (old mid new : List ℕ) → Puts n o row start m old mid → ((x : ℕ) → in-words new x ≡ (in-words mid x || gives n o row x (start + m))) → Puts n o row start (m + 1) old new
+puts-more n o row start m old mid new before put x =
+    put x ∙ ap (λ (b : Bool). b || gives n o row x (start + m)) (before x)
+    ∙ sym (or-regroups (in-words old x) (some-from start m (gives n o row x)) (gives n o row x (start + m)))
+    ∙ ap (λ (b : Bool). in-words old x || b) (sym (some-more start m (gives n o row x)))
+    ∙ ap (λ (q : ℕ). in-words old x || some-from start q (gives n o row x)) (sym (add-one m))
+
+pub puts-world : (n : ℕ) (o : Outcome) (row : List ℕ) (start m world : ℕ) (old mid new : List ℕ) → Puts n o row start m old mid → start + m < 2 ^ n → in-words row (start + m) ≡ true → world ≡ number n (after n o (world-of n (start + m))) → ((x : ℕ) → in-words new x ≡ (in-words mid x || eqb x world)) → Puts n o row start (m + 1) old new
+puts-world n o row start m world old mid new before inside has is put =
+    puts-more n o row start m old mid new before
+    (λ x.
+        put x
+        ∙ ap (λ (y : ℕ). in-words mid x || eqb x y) is
+        ∙ ap₂ (λ (a b : Bool). in-words mid x || ((a && b) && eqb x (number n (after n o (world-of n (start + m)))))) (sym (lt-ltb (start + m) (2 ^ n) inside)) (sym has))
+
+skip-with : (a b : Bool) → a ≡ (a || (false && b))
+skip-with true b = refl
+skip-with false b = refl
+
+pub puts-not : (n : ℕ) (o : Outcome) (row : List ℕ) (start m : ℕ) (old mid : List ℕ) → Puts n o row start m old mid → (ltb (start + m) (2 ^ n) && in-words row (start + m)) ≡ false → Puts n o row start (m + 1) old mid
+puts-not n o row start m old mid before none =
+    puts-more n o row start m old mid mid before
+    (λ x.
+        skip-with (in-words mid x) (eqb x (number n (after n o (world-of n (start + m)))))
+        ∙ ap (λ (b : Bool). in-words mid x || (b && eqb x (number n (after n o (world-of n (start + m)))))) (sym none))
+
+-- one word more
+pub puts-word : (n : ℕ) (o : Outcome) (row : List ℕ) (k : ℕ) (old mid new : List ℕ) → Puts n o row 0 (64 * k) old mid → Puts n o row (64 * k) 64 mid new → Puts n o row 0 (64 * (k + 1)) old new
+puts-word n o row k old mid new before word x =
+    let test : ℕ → Bool = gives n o row x in
+    let next : 64 * k + 64 ≡ 64 * (k + 1) = omega arith in
+    let from : 64 * k ≡ 0 + 64 * k = omega arith in
+    word x ∙ ap (λ (b : Bool). b || some-from (64 * k) 64 test) (before x)
+    ∙ sym (or-regroups (in-words old x) (some-from 0 (64 * k) test) (some-from (64 * k) 64 test))
+    ∙ ap (λ (q : ℕ). in-words old x || (some-from 0 (64 * k) test || some-from q 64 test)) from
+    ∙ ap (λ (b : Bool). in-words old x || b) (sym (some-split 0 (64 * k) 64 test))
+    ∙ ap (λ (q : ℕ). in-words old x || some-from 0 q test) next
+
+-- what the code says of the world after an outcome, at the world of a number
+pub after-number : (n world next : ℕ) (effects : List code-effect.Effect) → n ≤ 10 → lawful-outcome n (map effect-of effects) ≡ true → world < 2 ^ n → ((m : ℕ) (w : World m) → m ≤ 10 → every (lawful-effect m) (map effect-of effects) ≡ true → apart m (map effect-of effects) ≡ true → number m w ≡ world → next ≡ number m (after m (map effect-of effects) w)) → next ≡ number n (after n (map effect-of effects) (world-of n world))
+after-number n world next effects small fine inside right =
+    right n (world-of n world) small (lawful-effects n (map effect-of effects) fine) (lawful-apart n (map effect-of effects) fine) (number-of-world n world inside)
+
+-- ## What all outcomes give
+
+-- whether some outcome gives world number x from a world of a row
+abbrev pub given : (n : ℕ) → List Outcome → List ℕ → ℕ → Bool
+given n [] row x = false
+given n (o ∷ os) row x = some-from 0 1024 (gives n o row x) || given n os row x
+
+-- the row so far has what the outcomes so far give, where the rest is yet to come
+abbrev PutRest : (n : ℕ) → List code-outcome.Outcome → List code-outcome.Outcome → List ℕ → List ℕ → Type 0
+PutRest n outcomes rest row new =
+    (x : ℕ) → given n (map outcome-of outcomes) row x ≡ (in-words new x || given n (map outcome-of rest) row x)
+
+abbrev pub PutFirst : (n : ℕ) → List code-outcome.Outcome → ℕ → List ℕ → List ℕ → Type 0
+PutFirst n outcomes i row new = PutRest n outcomes (drop i outcomes) row new
+
+-- a row of zeros is empty
+zeros-at : (m i : ℕ) → getD {A = ℕ} (replicate m 0) i 0 ≡ 0
+zeros-at zero i = refl
+zeros-at (suc m) zero = refl
+zeros-at (suc m) (suc i) = zeros-at m i
+
+none-in-zeros : (x : ℕ) → in-words (replicate 16 0) x ≡ false
+none-in-zeros x = ap (λ (word : ℕ). bit word (x % 64)) (zeros-at 16 (x / 64)) ∙ bit-zero (x % 64)
+
+pub given-none : (n : ℕ) (outcomes : List code-outcome.Outcome) (row : List ℕ) → PutFirst n outcomes 0 row (replicate 16 0)
+given-none n outcomes row x = ap (λ (b : Bool). b || given n (map outcome-of outcomes) row x) (sym (none-in-zeros x))
+
+pub outcome-at : (n : ℕ) (outcomes : List code-outcome.Outcome) (i : ℕ) (d : code-outcome.Outcome) → i < length outcomes → every (lawful-outcome n) (map outcome-of outcomes) ≡ true → lawful-outcome n (outcome-of (getD outcomes i d)) ≡ true
+outcome-at n outcomes i d h all = every-at (lawful-outcome n) outcome-of outcomes i d h all
+
+pub given-more : (n : ℕ) (outcomes : List code-outcome.Outcome) (i : ℕ) (d : code-outcome.Outcome) (row mid new : List ℕ) → i < length outcomes → PutFirst n outcomes i row mid → Puts n (outcome-of (getD outcomes i d)) row 0 1024 mid new → PutFirst n outcomes (i + 1) row new
+given-more n outcomes i d row mid new h before put =
+    let o : Outcome = outcome-of (getD outcomes i d) in
+    let rest : List code-outcome.Outcome = drop (suc i) outcomes in
+    let here : PutRest n outcomes (getD outcomes i d ∷ rest) row mid =
+    subst (λ (os : List code-outcome.Outcome). PutRest n outcomes os row mid) (drop-cons outcomes i d h) before in
+    let there : PutRest n outcomes rest row new =
+    λ x. here x ∙ or-regroups (in-words mid x) (some-from 0 1024 (gives n o row x)) (given n (map outcome-of rest) row x)
+    ∙ ap (λ (b : Bool). b || given n (map outcome-of rest) row x) (sym (put x)) in
+    subst (λ (j : ℕ). PutFirst n outcomes j row new) (sym (add-one i)) there
+
+pub given-all : (n : ℕ) (outcomes : List code-outcome.Outcome) (i : ℕ) (row new : List ℕ) → i ≡ length outcomes → PutFirst n outcomes i row new → (x : ℕ) → in-words new x ≡ given n (map outcome-of outcomes) row x
+given-all n outcomes i row new end all x =
+    let none : drop i outcomes ≡ [] = ap (λ (j : ℕ). drop j outcomes) end ∙ drop-length outcomes in
+    let was : PutRest n outcomes [] row new = subst (λ (os : List code-outcome.Outcome). PutRest n outcomes os row new) none all in
+    sym (or-none (in-words new x)) ∙ sym (was x)
+
+-- ## What all outcomes give is the successor
+
+same-value-self : (b : Bool) → same-value b b ≡ true
+same-value-self true = refl
+same-value-self false = refl
+
+same-value-is : (a b : Bool) → same-value a b ≡ true → a ≡ b
+same-value-is true b same = sym same
+same-value-is false true same = absurd (false≢true same)
+same-value-is false false same = refl
+
+-- the test for one world passes exactly where it is one
+same-world-self : (n : ℕ) (w : World n) → same-world n w w ≡ true
+same-world-self zero w = refl
+same-world-self (suc n) w = and-from _ _ (same-value-self (w .0)) (same-world-self n (w .1))
+
+same-world-is : (n : ℕ) (v w : World n) → same-world n v w ≡ true → v ≡ w
+same-world-is zero v w same = refl
+same-world-is (suc n) v w same =
+    let parts = and-parts (same-value (v .0) (w .0)) (same-world n (v .1) (w .1)) same in
+    ap₂ (λ (b : Bool) (u : World n). (b, u)) (same-value-is (v .0) (w .0) (parts .0)) (same-world-is n (v .1) (w .1) (parts .1))
+
+-- what it is for an outcome to give a number
+gives-parts : (n : ℕ) (o : Outcome) (row : List ℕ) (x j : ℕ) → gives n o row x j ≡ true → (j < 2 ^ n) × (in-words row j ≡ true) × (x ≡ number n (after n o (world-of n j)))
+gives-parts n o row x j so =
+    let both = and-parts (ltb j (2 ^ n) && in-words row j) (eqb x (number n (after n o (world-of n j)))) so in
+    let near = and-parts (ltb j (2 ^ n)) (in-words row j) (both .0) in
+    (ltb-true j (2 ^ n) (near .0), near .1, eqb-true x (number n (after n o (world-of n j))) (both .1))
+
+-- worlds with one number are one
+same-number : (n : ℕ) (v w : World n) → number n v ≡ number n w → v ≡ w
+same-number n v w same = sym (world-of-number n v) ∙ ap (world-of n) same ∙ world-of-number n w
+
+-- no number beyond the worlds is given
+pub given-far : (n : ℕ) (os : List Outcome) (row : List ℕ) (x : ℕ) → 2 ^ n ≤ x → given n os row x ≡ false
+given-far n [] row x far = refl
+given-far n (o ∷ os) row x far =
+    or-from _ _
+    (cannot-pass _
+    (λ some.
+        let found = some-found 1024 (gives n o row x) some in
+        let is = gives-parts n o row x (found .0) (found .1) .2 in
+        let near = number-lt n (after n o (world-of n (found .0))) in
+        omega arith))
+    (given-far n os row x far)
+
+given-found : (n : ℕ) (os : List Outcome) (row : List ℕ) (v : World n) → given n os row (number n v) ≡ true → (j : ℕ) × (j < 2 ^ n) × (in-words row j ≡ true) × (may-give n os (world-of n j) v ≡ true)
+given-found n [] row v some = absurd (false≢true some)
+given-found n (o ∷ os) row v some =
+    elim (or-cases (some-from 0 1024 (gives n o row (number n v))) (given n os row (number n v)) some) [
+      | inl here ↦
+          let found = some-found 1024 (gives n o row (number n v)) here in
+          let parts = gives-parts n o row (number n v) (found .0) (found .1) in
+          let is : v ≡ after n o (world-of n (found .0)) = same-number n v (after n o (world-of n (found .0))) (parts .2) in
+          let same : same-world n (after n o (world-of n (found .0))) v ≡ true =
+          subst (λ (u : World n). same-world n u v ≡ true) is (same-world-self n v) in
+          (found .0, parts .0, parts .1, or-left _ _ same)
+      | inr later ↦
+          let found = given-found n os row v later in
+          (found .0, found .1, found .2, or-right (same-world n (after n o (world-of n (found .0))) v) _ (found .3))
+    ]
+
+found-given : (n : ℕ) (os : List Outcome) (row : List ℕ) (v : World n) (j : ℕ) → n ≤ 10 → j < 2 ^ n → in-words row j ≡ true → may-give n os (world-of n j) v ≡ true → given n os row (number n v) ≡ true
+found-given n [] row v j small inside has may = absurd (false≢true may)
+found-given n (o ∷ os) row v j small inside has may =
+    elim (or-cases (same-world n (after n o (world-of n j)) v) (may-give n os (world-of n j) v) may) [
+      | inl here ↦
+          let is : number n v ≡ number n (after n o (world-of n j)) = ap (number n) (sym (same-world-is n (after n o (world-of n j)) v here)) in
+          let so : gives n o row (number n v) j ≡ true = and-from _ _ (and-from _ _ (lt-ltb j (2 ^ n) inside) has) (eq-eqb (number n v) _ is) in
+          or-left _ _ (some-by 1024 (gives n o row (number n v)) j (lt-of-lt-of-le inside (pow-mono small)) so)
+      | inr later ↦
+          or-right (some-from 0 1024 (gives n o row (number n v))) _ (found-given n os row v j small inside has later)
+    ]
+
+pub given-successor : (n : ℕ) (os : List Outcome) (row : List ℕ) (v : World n) → n ≤ 10 → given n os row (number n v) ≡ successor n os (set-of n row) v
+given-successor n os row v small =
+    let test : World n → Bool = λ w. set-of n row w && may-give n os w v in
+    same-tests _ _
+    (λ some.
+        let found = given-found n os row v some in
+        number-some n test (found .0)
+        (and-from _ _ (ap (in-words row) (number-of-world n (found .0) (found .1)) ∙ found .2) (found .3)))
+    (λ some.
+        let found = some-number n test some in
+        let parts = and-parts (set-of n row (world-of n (found .0))) (may-give n os (world-of n (found .0)) v) (found .2) in
+        found-given n os row v (found .0) small (found .1)
+        (sym (ap (in-words row) (number-of-world n (found .0) (found .1))) ∙ parts .0) (parts .1))

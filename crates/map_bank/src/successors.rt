@@ -1,18 +1,23 @@
 // The worlds that an action's outcomes give from a set of worlds.
 ghost use mathlib.Core.Path.{_≡_};
-ghost use mathlib.Core.Bool.{true};
+ghost use mathlib.Core.Bool.{true, _||_};
 ghost use mathlib.Core.List.{map};
-ghost use Prim.Native.Nat.{ℕ, _/_, _≤_, _<_};
+ghost use Prim.Native.Nat.{ℕ, _*_, _/_, _≤_, _<_};
 ghost use lib.ListN.{length};
-ghost use Rattle.worlds.specs.Meaning.{effect-of};
+ghost use Rattle.worlds.specs.Meaning.{effect-of, outcome-of};
+ghost use Rattle.worlds.specs.Sets.{successor};
 ghost use Rattle.worlds.specs.Steps.{after};
-ghost use Rattle.worlds.specs.Tickets.{every, lawful-effect, apart};
+ghost use Rattle.worlds.specs.Tickets.{every, lawful-effect, apart, lawful-outcome};
 ghost use Rattle.worlds.specs.Worlds.{World, speaks-within};
-ghost use Rattle.map_bank.specs.Numbers.{number};
-ghost use Rattle.map_bank.specs.Successors.{made, Masked};
+ghost use Rattle.map_bank.specs.Numbers.{number, in-words, set-of};
+ghost use Rattle.map_bank.specs.Rows.{Tidy};
+ghost use Rattle.map_bank.specs.Successors.{made, Masked, gives, some-from};
+use crate::words::has;
 use crate::words::meet_mask;
+use crate::words::put;
 use worlds::step::Effect;
 use worlds::step::Literal;
+use worlds::step::Outcome;
 
 // The number of a world with one literal made so.
 fn changed(world: usize, result: Literal) -> usize
@@ -47,6 +52,43 @@ fn world_after(world: usize, effects: &[Effect], masks: &[u64; 4]) -> usize
         if masks[i] >> (world % 64) & 1 == 1 {
             next = changed(next, result);
         }
+    }
+    next
+}
+
+// Puts the worlds that an outcome gives from the worlds in word k of a row.
+fn put_word(next: &mut [u64; 16], row: &[u64; 16], k: usize, n: u16, effects: &[Effect])
+    requires { ⌜ (n ≤ 10) × (k < 16) × (lawful-outcome n (map effect-of (now effects)) ≡ true) ⌝ }
+    ensures { λ _. ⌜ ((x : ℕ) → in-words (now (next .exit)) x ≡ (in-words (now (next .entry)) x || some-from (64 * k) 64 (gives n (map effect-of (now (effects .entry))) (now (row .entry)) x))) ⌝ }
+{
+    let masks = effect_masks(effects, k);
+    for b in 0..64 {
+        let world = 64 * k + b;
+        if world < 1 << n && has(row, world) {
+            put(next, world_after(world, effects, &masks));
+        }
+    }
+}
+
+// Puts the worlds that an outcome gives from the worlds of a row.
+fn put_outcome(next: &mut [u64; 16], row: &[u64; 16], n: u16, effects: &[Effect])
+    requires { ⌜ (n ≤ 10) × (lawful-outcome n (map effect-of (now effects)) ≡ true) ⌝ }
+    ensures { λ _. ⌜ ((x : ℕ) → in-words (now (next .exit)) x ≡ (in-words (now (next .entry)) x || some-from 0 1024 (gives n (map effect-of (now (effects .entry))) (now (row .entry)) x))) ⌝ }
+{
+    for k in 0..16 {
+        put_word(next, row, k, n, effects);
+    }
+}
+
+// The worlds that any of some outcomes gives from the worlds of a row.
+pub(crate) fn next_row(row: &[u64; 16], n: u16, outcomes: &[Outcome]) -> [u64; 16]
+    requires { ⌜ (n ≤ 10) × (every (lawful-outcome n) (map outcome-of (now outcomes)) ≡ true) ⌝ }
+    ensures set { λ r. ⌜ ((v : World n) → set-of n r v ≡ successor n (map outcome-of (now (outcomes .entry))) (set-of n (now (row .entry))) v) ⌝ }
+    ensures tidy { λ r. ⌜ Tidy n r ⌝ }
+{
+    let mut next = [0; 16];
+    for outcome in outcomes {
+        put_outcome(&mut next, row, n, outcome.effects.as_slice());
     }
     next
 }
