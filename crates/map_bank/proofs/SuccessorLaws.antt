@@ -3,7 +3,7 @@
 use mathlib.Core.Path.{_≡_, refl, sym, _∙_, ap, ap₂, subst}
 use mathlib.Core.Bool.{Bool, true, false, not, _&&_, _||_, cond}
 use mathlib.Core.List.{List, [], _∷_, map}
-use mathlib.Core.Logic.{_⊎_, inl, inr}
+use mathlib.Core.Logic.{inl, inr}
 use Prim.Native.Nat.{ℕ, zero, suc, _+_, _-_, _*_, _/_, _%_, _^_, _≤_, _<_}
 use native.Mathlib.Nat.{add-zero, add-suc, add-assoc, lt-of-le-of-lt, lt-of-lt-of-le}
 use native.Mathlib.Numerals.{add-one}
@@ -16,7 +16,7 @@ use lib.Seq.{getD-set-same, getD-set-other, drop-cons, drop-length}
 use lib.IntN.{pos, negsuc, natAbs, negℤ-negℤ}
 use lib.Signed.{ltZ}
 use Rattle.std.proofs.shelf.Bits.{pow-below, one-shl}
-use Rattle.std.proofs.shelf.Tests.{cases-eq, both-ways, not-true, true≢false, false≢true, eqb-true, eq-eqb, ltb-true, ltb-false, lt-ltb, leb-true, le-leb, and-parts, and-from, or-cases, or-from, or-left, or-right}
+use Rattle.std.proofs.shelf.Tests.{cases-eq, both-ways, not-true, true≢false, false≢true, eqb-true, eq-eqb, ltb-true, ltb-false, lt-ltb, leb-true, le-leb, and-parts, and-from, and-left, and-right, or-cases, or-from, or-left, or-right}
 use Rattle.worlds.specs.declared.step.Effect as code-effect
 use Rattle.worlds.specs.declared.step.Outcome as code-outcome
 use Rattle.worlds.specs.Meaning.{effect-of, outcome-of, listed}
@@ -28,7 +28,6 @@ use Rattle.worlds.proofs.Compatible.{same-tests, cannot-pass, same-literal-is, 
 use Rattle.worlds.proofs.TakeHold.{brought-by, met-clash, clashes-in}
 use Rattle.map_bank.specs.Bits.{bit}
 use Rattle.map_bank.specs.Numbers.{number, world-of, in-words, set-of}
-use Rattle.map_bank.specs.Rows.{Tidy}
 use Rattle.map_bank.specs.Successors.{made, Masked, gives, some-from}
 use Rattle.map_bank.proofs.BitLaws.{bit-and, bit-zero, bit-put, bit-power, bit-complement, same-bits-at, shift-test}
 use Rattle.map_bank.proofs.NumberLaws.{number-lt, world-of-number, number-of-world, some-number, number-some, value-bit-suc}
@@ -77,19 +76,19 @@ made-true : (n p : ℕ) (w : World n) → suc p ≤ n → bitOr (number n w) (2 
 made-true n p w h =
     same-bits-at n _ _ (or-lt n _ _ (number-lt n w) (pow-below p n h)) (number-lt n _)
     (λ i hi.
-        bit-put (number n w) p i ∙ or-chosen (bit (number n w) i) (eqb i p)
-        ∙ ap (λ (e : Bool). cond e true (bit (number n w) i)) (sym (eqb·suc-suc i p))
-        ∙ made-bits n (pos (suc p)) w i hi)
+    bit-put (number n w) p i ∙ or-chosen (bit (number n w) i) (eqb i p)
+    ∙ ap (λ (e : Bool). cond e true (bit (number n w) i)) (sym (eqb·suc-suc i p))
+    ∙ made-bits n (pos (suc p)) w i hi)
 
 -- `world & !(1 << m)`
 made-false : (n m : ℕ) (w : World n) → n ≤ 10 → suc m ≤ n → bitAnd (number n w) (2 ^ 64 - 1 - 2 ^ m) ≡ number n (made n (negsuc m) w)
 made-false n m w small h =
     same-bits-at n _ _ (lt-of-le-of-lt (and-le-l _ _) (number-lt n w)) (number-lt n _)
     (λ i hi.
-        bit-and (number n w) (2 ^ 64 - 1 - 2 ^ m) i
-        ∙ ap (λ (b : Bool). bit (number n w) i && b) (bit-complement (2 ^ m) i (pow-below m 64 (omega arith)) (omega arith) ∙ ap not (bit-power m i))
-        ∙ and-chosen (bit (number n w) i) (eqb i m)
-        ∙ made-bits n (negsuc m) w i hi)
+    bit-and (number n w) (2 ^ 64 - 1 - 2 ^ m) i
+    ∙ ap (λ (b : Bool). bit (number n w) i && b) (bit-complement (2 ^ m) i (pow-below m 64 (omega arith)) (omega arith) ∙ ap not (bit-power m i))
+    ∙ and-chosen (bit (number n w) i) (eqb i m)
+    ∙ made-bits n (negsuc m) w i hi)
 
 -- the power that the code shifts to
 shifted : (size p : ℕ) → size ≡ suc p → p < 64 → (1 * 2 ^ (size - 1)) % 2 ^ 64 ≡ 2 ^ p
@@ -150,10 +149,10 @@ not-against n e es w fine met =
     let parts = and-parts (not (clashes-later n e es)) (apart n es) fine in
     cannot-pass _
     (λ brought.
-        let found = brought-by n es w (opposite (e .result)) brought in
-        let back : opposite (found .0 .result) ≡ e .result = ap opposite (found .3) ∙ negℤ-negℤ (e .result) in
-        both-ways _ (not-true _ (parts .0))
-        (clashes-in n e es (found .0) (found .1) (met-clash n w e (found .0) met (found .2) back)))
+    let found = brought-by n es w (opposite (e .result)) brought in
+    let back : opposite (found .0 .result) ≡ e .result = ap opposite (found .3) ∙ negℤ-negℤ (e .result) in
+    both-ways _ (not-true _ (parts .0))
+    (clashes-in n e es (found .0) (found .1) (met-clash n w e (found .0) met (found .2) back)))
 
 -- an effect that is met makes its result so before the rest
 pub later-take : (n : ℕ) (e : Effect) (es : Outcome) (w v : World n) → apart n (e ∷ es) ≡ true → meets n w (e .conditions) ≡ true → later n (e ∷ es) w v ≡ later n es w (made n (e .result) v)
@@ -164,10 +163,10 @@ later-take n e es w v fine met =
     ap (λ (b : Bool). world-by n (λ p. cond ((b && same-literal (pos p) l) || brings n es w (pos p)) true (cond ((b && same-literal (opposite (pos p)) l) || brings n es w (opposite (pos p))) false (value n v p)))) met
     ∙ by-same n (λ p. cond (same-literal (pos p) l || brings n es w (pos p)) true (cond (same-literal (opposite (pos p)) l || brings n es w (opposite (pos p))) false (value n v p))) (later-rule n es w (made n l v))
     (λ m h.
-        any-order (same-literal (pos (suc m)) l) (same-literal (negsuc m) l) (brings n es w (pos (suc m))) (brings n es w (negsuc m)) (value n v (suc m))
-        (λ same. subst (λ (k : Literal). brings n es w (opposite k) ≡ false) (sym (same-literal-is (pos (suc m)) l same)) against)
-        (λ same. subst (λ (k : Literal). brings n es w (opposite k) ≡ false) (sym (same-literal-is (negsuc m) l same)) against)
-        ∙ ap (λ (x : Bool). cond (brings n es w (pos (suc m))) true (cond (brings n es w (negsuc m)) false x)) (sym (value-by n rule m h)))
+    any-order (same-literal (pos (suc m)) l) (same-literal (negsuc m) l) (brings n es w (pos (suc m))) (brings n es w (negsuc m)) (value n v (suc m))
+    (λ same. subst (λ (k : Literal). brings n es w (opposite k) ≡ false) (sym (same-literal-is (pos (suc m)) l same)) against)
+    (λ same. subst (λ (k : Literal). brings n es w (opposite k) ≡ false) (sym (same-literal-is (negsuc m) l same)) against)
+    ∙ ap (λ (x : Bool). cond (brings n es w (pos (suc m))) true (cond (brings n es w (negsuc m)) false x)) (sym (value-by n rule m h)))
 
 -- ## The effects that the code keeps
 
@@ -390,9 +389,9 @@ pub puts-world : (n : ℕ) (o : Outcome) (row : List ℕ) (start m world : ℕ) 
 puts-world n o row start m world old mid new before inside has is put =
     puts-more n o row start m old mid new before
     (λ x.
-        put x
-        ∙ ap (λ (y : ℕ). in-words mid x || eqb x y) is
-        ∙ ap₂ (λ (a b : Bool). in-words mid x || ((a && b) && eqb x (number n (after n o (world-of n (start + m)))))) (sym (lt-ltb (start + m) (2 ^ n) inside)) (sym has))
+    put x
+    ∙ ap (λ (y : ℕ). in-words mid x || eqb x y) is
+    ∙ ap₂ (λ (a b : Bool). in-words mid x || ((a && b) && eqb x (number n (after n o (world-of n (start + m)))))) (sym (lt-ltb (start + m) (2 ^ n) inside)) (sym has))
 
 skip-with : (a b : Bool) → a ≡ (a || (false && b))
 skip-with true b = refl
@@ -402,8 +401,26 @@ pub puts-not : (n : ℕ) (o : Outcome) (row : List ℕ) (start m : ℕ) (old mid
 puts-not n o row start m old mid before none =
     puts-more n o row start m old mid mid before
     (λ x.
-        skip-with (in-words mid x) (eqb x (number n (after n o (world-of n (start + m)))))
-        ∙ ap (λ (b : Bool). in-words mid x || (b && eqb x (number n (after n o (world-of n (start + m)))))) (sym none))
+    skip-with (in-words mid x) (eqb x (number n (after n o (world-of n (start + m)))))
+    ∙ ap (λ (b : Bool). in-words mid x || (b && eqb x (number n (after n o (world-of n (start + m)))))) (sym none))
+
+-- from a word without worlds the outcome gives none
+empty-gives : (n : ℕ) (o : Outcome) (row : List ℕ) (k x m : ℕ) → getD row k 0 ≡ 0 → m < 64 → gives n o row x (64 * k + m) ≡ false
+empty-gives n o row k x m empty h =
+    let word : (64 * k + m) / 64 ≡ k = omega arith in
+    let none : in-words row (64 * k + m) ≡ false =
+    ap (λ (q : ℕ). bit (getD row q 0) ((64 * k + m) % 64)) word ∙ ap (λ (y : ℕ). bit y ((64 * k + m) % 64)) empty ∙ bit-zero ((64 * k + m) % 64) in
+    and-left _ _ (and-right (ltb (64 * k + m) (2 ^ n)) _ none)
+
+empty-some : (n : ℕ) (o : Outcome) (row : List ℕ) (k x m : ℕ) → getD row k 0 ≡ 0 → m ≤ 64 → some-from (64 * k) m (gives n o row x) ≡ false
+empty-some n o row k x zero empty h = some-none (64 * k) (gives n o row x)
+empty-some n o row k x (suc m) empty h =
+    some-more (64 * k) m (gives n o row x)
+    ∙ or-from _ _ (empty-some n o row k x m empty (omega arith)) (empty-gives n o row k x m empty (omega arith))
+
+pub puts-empty : (n : ℕ) (o : Outcome) (row : List ℕ) (k : ℕ) (old : List ℕ) → getD row k 0 ≡ 0 → Puts n o row (64 * k) 64 old old
+puts-empty n o row k old empty x =
+    sym (or-none (in-words old x)) ∙ ap (λ (b : Bool). in-words old x || b) (sym (empty-some n o row k x 64 empty (omega arith)))
 
 -- one word more
 pub puts-word : (n : ℕ) (o : Outcome) (row : List ℕ) (k : ℕ) (old mid new : List ℕ) → Puts n o row 0 (64 * k) old mid → Puts n o row (64 * k) 64 mid new → Puts n o row 0 (64 * (k + 1)) old new
@@ -509,10 +526,10 @@ given-far n (o ∷ os) row x far =
     or-from _ _
     (cannot-pass _
     (λ some.
-        let found = some-found 1024 (gives n o row x) some in
-        let is = gives-parts n o row x (found .0) (found .1) .2 in
-        let near = number-lt n (after n o (world-of n (found .0))) in
-        omega arith))
+    let found = some-found 1024 (gives n o row x) some in
+    let is = gives-parts n o row x (found .0) (found .1) .2 in
+    let near = number-lt n (after n o (world-of n (found .0))) in
+    omega arith))
     (given-far n os row x far)
 
 given-found : (n : ℕ) (os : List Outcome) (row : List ℕ) (v : World n) → given n os row (number n v) ≡ true → (j : ℕ) × (j < 2 ^ n) × (in-words row j ≡ true) × (may-give n os (world-of n j) v ≡ true)
@@ -548,11 +565,11 @@ given-successor n os row v small =
     let test : World n → Bool = λ w. set-of n row w && may-give n os w v in
     same-tests _ _
     (λ some.
-        let found = given-found n os row v some in
-        number-some n test (found .0)
-        (and-from _ _ (ap (in-words row) (number-of-world n (found .0) (found .1)) ∙ found .2) (found .3)))
+    let found = given-found n os row v some in
+    number-some n test (found .0)
+    (and-from _ _ (ap (in-words row) (number-of-world n (found .0) (found .1)) ∙ found .2) (found .3)))
     (λ some.
-        let found = some-number n test some in
-        let parts = and-parts (set-of n row (world-of n (found .0))) (may-give n os (world-of n (found .0)) v) (found .2) in
-        found-given n os row v (found .0) small (found .1)
-        (sym (ap (in-words row) (number-of-world n (found .0) (found .1))) ∙ parts .0) (parts .1))
+    let found = some-number n test some in
+    let parts = and-parts (set-of n row (world-of n (found .0))) (may-give n os (world-of n (found .0)) v) (found .2) in
+    found-given n os row v (found .0) small (found .1)
+    (sym (ap (in-words row) (number-of-world n (found .0) (found .1))) ∙ parts .0) (parts .1))

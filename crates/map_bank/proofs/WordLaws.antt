@@ -81,7 +81,7 @@ bit-all : (b : ℕ) → b < 64 → bit (2 ^ 64 - 1) b ≡ true
 bit-all b hb = bit-complement 0 b (omega arith) hb ∙ ap not (bit-zero b)
 
 -- what passes a test from a place on: the element at the place, and those after it
-pub every-from : {X : Type 0} (test : X → Bool) (xs : List X) (i : ℕ) (d : X) → i < length xs → every test (drop i xs) ≡ true → (test (getD xs i d) ≡ true) × (every test (drop (suc i) xs) ≡ true)
+every-from : {X : Type 0} (test : X → Bool) (xs : List X) (i : ℕ) (d : X) → i < length xs → every test (drop i xs) ≡ true → (test (getD xs i d) ≡ true) × (every test (drop (suc i) xs) ≡ true)
 every-from {X} test xs i d h all =
     and-parts (test (getD xs i d)) (every test (drop (suc i) xs))
     (subst (λ (ys : List X). every test ys ≡ true) (drop-cons xs i d h) all)

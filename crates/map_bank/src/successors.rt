@@ -25,7 +25,11 @@ fn changed(world: usize, result: Literal) -> usize
     ensures { λ r. ⌜ ((n : ℕ) (w : World n) → n ≤ 10 → speaks-within n result ≡ true → number n w ≡ world → r ≡ number n (made n result w)) ⌝ }
 {
     let one = 1usize << (result.unsigned_abs() - 1);
-    if result > 0 { world | one } else { world & !one }
+    if result > 0 {
+        world | one
+    } else {
+        world & !one
+    }
 }
 
 // Of word k, the worlds that meet each effect.
@@ -76,7 +80,10 @@ fn put_outcome(next: &mut [u64; 16], row: &[u64; 16], n: u16, effects: &[Effect]
     ensures { λ _. ⌜ ((x : ℕ) → in-words (now (next .exit)) x ≡ (in-words (now (next .entry)) x || some-from 0 1024 (gives n (map effect-of (now (effects .entry))) (now (row .entry)) x))) ⌝ }
 {
     for k in 0..16 {
-        put_word(next, row, k, n, effects);
+        // Small sets, and sets of few conditions, leave most words empty.
+        if row[k] != 0 {
+            put_word(next, row, k, n, effects);
+        }
     }
 }
 

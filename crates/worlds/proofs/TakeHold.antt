@@ -48,7 +48,7 @@ not-brought n o w l never =
 -- ## Effects that one world meets do not contradict each other
 
 -- what all of a list pass, each that stands in it passes
-pub every-in : {X : Type 0} (test : X → Bool) (xs : List X) (x : X) → every test xs ≡ true → In x xs → test x ≡ true
+every-in : {X : Type 0} (test : X → Bool) (xs : List X) (x : X) → every test xs ≡ true → In x xs → test x ≡ true
 every-in test [] x all none = absurd none
 every-in test (y ∷ ys) x all (inl same) =
     ap test same ∙ and-parts (test y) (every test ys) all .0

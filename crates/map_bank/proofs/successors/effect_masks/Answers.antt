@@ -5,7 +5,7 @@ use mathlib.Core.List.{List}
 use mathlib.Core.Path.{_≡_, refl, sym, ap, subst, _∙_}
 use native.Mathlib.Omega.{arith}
 use lib.ListN.{length, getD, length-set}
-use Rattle.worlds.specs.Meaning.{effect-of, listed}
+use Rattle.worlds.specs.Meaning.{effect-of}
 use Rattle.worlds.specs.Tickets.{every}
 use Rattle.worlds.specs.Worlds.{Literal, speaks-within, meets}
 use Rattle.map_bank.proofs.SuccessorLaws.{masked-more, conditions-within, effect-at}
@@ -27,7 +27,7 @@ loop-i-again c =
     let room : c .loop-i .i < length (c .loop-i .masks) = omega arith in (
       simp length-set four,
       masked-more (c .args .k) (c .loop-i .i) (c .meet-mask .result) (c .args .effects .now) (c .loop-i .masks) (c .index-effects-i .result) room (c .loop-i .inv .1)
-      (λ n w b hb is. c .meet-mask .ensures n w b hb is ∙ ap (meets n w) (c .as-slice .ensures)),
+          (λ n w b hb is. c .meet-mask .ensures n w b hb is ∙ ap (meets n w) (c .as-slice .ensures)),
     )
 
 pub returns : need.returns

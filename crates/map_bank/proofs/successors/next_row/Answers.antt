@@ -1,10 +1,9 @@
 -- Each turn puts what one more outcome gives.
 use mathlib.Core.Bool.{true}
 use mathlib.Core.List.{List, map}
-use mathlib.Core.Path.{_≡_, sym, subst, ap, _∙_}
+use mathlib.Core.Path.{_≡_, sym, subst, _∙_}
 use Prim.Native.Nat.{ℕ}
 use native.Mathlib.Omega.{arith}
-use lib.ListN.{getD}
 use Rattle.worlds.specs.declared.step.Effect.{Effect}
 use Rattle.worlds.specs.declared.step.Outcome.{Outcome}
 use Rattle.worlds.specs.Meaning.{effect-of, outcome-of}
@@ -43,5 +42,5 @@ returns c =
     given-all n outcomes (c .loop-outcome .outcome-index) row new (omega arith) (c .loop-outcome .inv) in
     record {
       set = λ v. all (number n v) ∙ given-successor n (map outcome-of outcomes) row v (c .pre .0);
-      tidy = λ k far small. all k ∙ given-far n (map outcome-of outcomes) row k far
+      tidy = λ k far small. all k ∙ given-far n (map outcome-of outcomes) row k far;
     }

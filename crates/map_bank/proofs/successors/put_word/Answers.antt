@@ -1,7 +1,7 @@
 -- Each turn puts what the outcome gives from one more world, if the row has it.
 use mathlib.Core.Bool.{_&&_, false}
 use mathlib.Core.List.{List, map}
-use mathlib.Core.Path.{_≡_, sym, subst, _∙_}
+use mathlib.Core.Path.{_≡_, sym, subst}
 use Prim.Native.Nat.{ℕ, _+_, _*_, _/_, _%_, _^_, _≤_, _<_}
 use native.Mathlib.Omega.{arith}
 use lib.Dec.{ltb}
@@ -9,7 +9,7 @@ use Rattle.std.proofs.shelf.Bits.{one-shl}
 use Rattle.std.proofs.shelf.Tests.{le-ltb, and-left, and-right}
 use Rattle.worlds.specs.Meaning.{effect-of}
 use Rattle.worlds.specs.Steps.{after}
-use Rattle.map_bank.specs.Numbers.{number, world-of, in-words}
+use Rattle.map_bank.specs.Numbers.{world-of, in-words}
 use Rattle.map_bank.specs.Successors.{Masked}
 use Rattle.map_bank.proofs.NumberLaws.{number-below}
 use Rattle.map_bank.proofs.SuccessorLaws.{Puts, lawful-ten, lawful-few, after-number, puts-none, puts-world, puts-not}
