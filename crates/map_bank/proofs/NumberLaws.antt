@@ -62,7 +62,7 @@ number-below n w h = lt-of-lt-of-le (number-lt n w) (pow-mono h)
 
 -- ## The values of a world are its number's bits
 
-value-bit-suc : (n : ℕ) (w : World n) (m : ℕ) → value n w (suc m) ≡ bit (number n w) m
+pub value-bit-suc : (n : ℕ) (w : World n) (m : ℕ) → value n w (suc m) ≡ bit (number n w) m
 value-bit-suc zero w m = sym (bit-zero m)
 value-bit-suc (suc n) w zero =
     sym (bit-lowest (number (suc n) w) ∙ lowest-digit (w .0) (number n (w .1)))

@@ -2,4 +2,5 @@
 pub mod Bits
 pub mod Numbers
 pub mod Rows
+pub mod Successors
 pub mod TruthTable

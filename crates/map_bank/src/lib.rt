@@ -1,3 +1,4 @@
 mod rows;
+mod successors;
 mod table;
 mod words;

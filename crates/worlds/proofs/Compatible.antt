@@ -20,7 +20,7 @@ use Rattle.worlds.specs.Tickets.{every, clash, clashes, clashes-later, apart}
 -- ## Truth values
 
 -- two tests are equal where each passes if the other does
-same-tests : (a b : Bool) → (a ≡ true → b ≡ true) → (b ≡ true → a ≡ true) → a ≡ b
+pub same-tests : (a b : Bool) → (a ≡ true → b ≡ true) → (b ≡ true → a ≡ true) → a ≡ b
 same-tests true b there back = sym (there refl)
 same-tests false true there back = back refl
 same-tests false false there back = refl
@@ -123,7 +123,7 @@ says rule (pos p) = rule p
 says rule (negsuc m) = not (rule (suc m))
 
 -- past the first condition, the value is that of the rest of the world
-value-rest : (n : ℕ) (b : Bool) (w : World n) (m : ℕ) → value (suc n) (b, w) (suc (suc m)) ≡ value n w (suc m)
+pub value-rest : (n : ℕ) (b : Bool) (w : World n) (m : ℕ) → value (suc n) (b, w) (suc (suc m)) ≡ value n w (suc m)
 value-rest n b w m =
     let other : eqb (suc (suc m)) 1 ≡ false = ne-eqb (suc (suc m)) 1 (λ e. omega arith) in
     let before : suc (suc m) - 1 ≡ suc m = omega arith in

@@ -28,7 +28,7 @@ met-brings n (d ∷ ds) w e (inr later) met =
     or-right (meets n w (d .conditions) && same-literal (e .result) (d .result)) _ (met-brings n ds w e later met)
 
 -- what is brought is the result of an effect that the world meets
-brought-by : (n : ℕ) (o : Outcome) (w : World n) (l : Literal) → brings n o w l ≡ true → (e : Effect) × In e o × (meets n w (e .conditions) ≡ true) × (e .result ≡ l)
+pub brought-by : (n : ℕ) (o : Outcome) (w : World n) (l : Literal) → brings n o w l ≡ true → (e : Effect) × In e o × (meets n w (e .conditions) ≡ true) × (e .result ≡ l)
 brought-by n [] w l brought = absurd (false≢true brought)
 brought-by n (d ∷ ds) w l brought =
     elim (or-cases (meets n w (d .conditions) && same-literal l (d .result)) (brings n ds w l) brought) [
@@ -56,14 +56,14 @@ every-in test (y ∷ ys) x all (inr later) =
     every-in test ys x (and-parts (test y) (every test ys) all .1) later
 
 -- effects with opposite results that one world meets clash
-met-clash : (n : ℕ) (w : World n) (d e : Effect) → meets n w (d .conditions) ≡ true → meets n w (e .conditions) ≡ true → opposite (e .result) ≡ d .result → clash n d e ≡ true
+pub met-clash : (n : ℕ) (w : World n) (d e : Effect) → meets n w (d .conditions) ≡ true → meets n w (e .conditions) ≡ true → opposite (e .result) ≡ d .result → clash n d e ≡ true
 met-clash n w d e met-d met-e against =
     and-from _ _
     (subst (λ (l : Literal). same-literal (d .result) l ≡ true) (sym against) (same-literal-self (d .result)))
     (some-world-from n (λ v. meets n v (d .conditions) && meets n v (e .conditions)) w (and-from _ _ met-d met-e))
 
 -- an effect that clashes with one of a list clashes with a later one
-clashes-in : (n : ℕ) (d : Effect) (es : Outcome) (e : Effect) → In e es → clash n d e ≡ true → clashes-later n d es ≡ true
+pub clashes-in : (n : ℕ) (d : Effect) (es : Outcome) (e : Effect) → In e es → clash n d e ≡ true → clashes-later n d es ≡ true
 clashes-in n d [] e none clashing = absurd none
 clashes-in n d (x ∷ es) e (inl same) clashing =
     or-left _ _ (subst (λ (y : Effect). clash n d y ≡ true) same clashing)
