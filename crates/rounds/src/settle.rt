@@ -1,0 +1,1 @@
+// Settling a graph, round by round.
