@@ -26,6 +26,11 @@ unsettled [] = 0
 unsettled (None ∷ totals) = suc (unsettled totals)
 unsettled (Some t ∷ totals) = unsettled totals
 
+-- what is tried at a node, but none where the node has a total already
+abbrev pub unless-settled : {T : Type 0} → Option T → Option (Tentative T) → Option (Tentative T)
+unless-settled (Some t) tried = None
+unless-settled None tried = tried
+
 module _ {T : Type 0} (le : T → T → Bool) where
   -- the larger of two totals, where there are both
   abbrev pub both : Option T → Option T → Option T
@@ -51,12 +56,14 @@ module _ {T : Type 0} (le : T → T → Bool) where
   best-below rule (suc n) = better (best-below rule n) (rule n)
 
 module _ {T : Type 0} (le : T → T → Bool) (nothing : T) (add : Step → T → T) where
+  -- step k, which is x, taken at node i before a rest, where there is one
+  abbrev pub taken : (i k : ℕ) → (x : Step) → (rest : Option T) → Option (Tentative T)
+  taken i k x None = None
+  taken i k x (Some rest) = Some (record { node = i; choice = Take k; total = add x rest })
+
   -- the tentative total of node i by step k, which is x and leads there as `to` says
   abbrev pub by-step : List (Option T) → (i k : ℕ) → (to : Move) → (x : Step) → Option (Tentative T)
-  by-step totals i k to x = elim (rest-total le totals to) [
-      | None ↦ None
-      | Some rest ↦ Some (record { node = i; choice = Take k; total = add x rest })
-    ]
+  by-step totals i k to x = taken i k x (rest-total le totals to)
 
   -- the same where k may be no step
   abbrev pub by-step-at : List (Option T) → (i k : ℕ) → (to : Move) → Option Step → Option (Tentative T)
@@ -69,10 +76,9 @@ module _ {T : Type 0} (le : T → T → Bool) (nothing : T) (add : Step → T �
 
   -- the least tentative total of a node: nothing where it ends, else by a step; none where it is settled
   abbrev pub tentative : Graph → List (Option T) → ℕ → Option (Tentative T)
-  tentative g totals i = elim (total-at totals i) [
-      | Some t ↦ None
-      | None ↦ cond (g .ends i) (Some (record { node = i; choice = End; total = nothing })) (best-step (g .steps) totals i (g .move i))
-    ]
+  tentative g totals i =
+      unless-settled (total-at totals i)
+      (cond (g .ends i) (Some (record { node = i; choice = End; total = nothing })) (best-step (g .steps) totals i (g .move i)))
 
   -- the least of all nodes, which is settled in this round
   abbrev pub best-node : Graph → List (Option T) → Option (Tentative T)
