@@ -3,7 +3,7 @@
 use mathlib.Core.Path.{_≡_, refl, sym, _∙_, ap}
 use mathlib.Core.Logic.{_⊎_, inl, inr}
 use mathlib.Core.List.{List, [], _∷_, map}
-use Prim.Native.Nat.{ℕ, zero, suc, _<_}
+use Prim.Native.Nat.{ℕ, zero, suc, _<_, suc-le-suc}
 use native.Mathlib.Nat.{not-suc-le-zero, le-of-suc-le-suc}
 use native.Mathlib.Omega.{arith}
 use lib.ListN.{length, getD, set}
@@ -54,3 +54,9 @@ pub step-within : (xs : List Step) (k : ℕ) (x : Step) → step-at xs k ≡ Som
 step-within [] k x e = absurd (none-some e)
 step-within (y ∷ xs) zero x e = omega arith
 step-within (y ∷ xs) (suc k) x e = let h = step-within xs k x e in omega arith
+
+-- where there are no values at all, each place is none
+pub all-unsettled : {X : Type 0} (xs : List (Option X)) → ((i : ℕ) → i < length xs → getD xs i None ≡ None) → unsettled xs ≡ length xs
+all-unsettled [] none = refl
+all-unsettled (None ∷ xs) none = ap suc (all-unsettled xs (λ i h. none (suc i) (suc-le-suc h)))
+all-unsettled (Some x ∷ xs) none = absurd (none-some (sym (none 0 (omega arith))))

@@ -22,11 +22,11 @@ use Rattle.rounds.specs.declared.graph.Choice.{Choice}
 use Rattle.rounds.specs.declared.graph.Choice.the-variants.{End, Take}
 use Rattle.rounds.specs.declared.graph.Tentative.{Tentative}
 use Rattle.rounds.specs.Graph.{Graph, NumberedWay, end, by-action, by-sensing, numbered-total}
-use Rattle.rounds.specs.Rounds.{total-at, both, rest-total, unless-settled, best-below, taken, by-step, by-step-at, best-step, tentative, best-node}
+use Rattle.rounds.specs.Rounds.{total-at, unsettled, both, rest-total, unless-settled, best-below, taken, by-step, by-step-at, best-step, tentative, best-node}
 use Rattle.std.proofs.shelf.Lists.{getD-set-same, getD-set-other}
 use Rattle.rounds.specs.declared.graph.Mark.{Mark}
 use Rattle.rounds.specs.Settled.{mark-at, Before, Follows, Chosen, Settled}
-use Rattle.rounds.proofs.Lists.{none-some, some-same, cases-some, some-within}
+use Rattle.rounds.proofs.Lists.{none-some, some-same, cases-some, some-within, one-settled}
 use Rattle.rounds.proofs.Scans.{best-one}
 use Rattle.rounds.proofs.Cut.{Below-all, best-below-all, none-left}
 
@@ -124,3 +124,141 @@ module _ {T : Type 0} {le : T → T → Bool} {nothing : T} {add : Step → T �
 
   next : (o : Tentative T) → best-node le nothing add g totals ≡ Some o → Next o
   next o best = let b = best-one laws (tentative le nothing add g totals) (length totals) o best in by-trying (b .0) o (b .1) (b .2)
+
+  -- ## The round
+
+  -- the totals and the marks after it
+  abbrev totals-after : Tentative T → List (Option T)
+  totals-after o = set totals (o .node) (Some (o .total))
+
+  abbrev marks-after : Tentative T → List Mark
+  marks-after o = set marks (o .node) (record { choice = o .choice; rank = count })
+
+  -- a settled node is another than the one that is settled now
+  other-node : (o : Tentative T) → Next o → (i : ℕ) (t : T) → total-at totals i ≡ Some t → i ≡ o .node → ⊥
+  other-node o n i t e same = none-some (sym (n .ahead) ∙ subst (λ (k : ℕ). total-at totals k ≡ Some t) same e)
+
+  keep-before : (o : Tentative T) → Next o → (rank j : ℕ) (t : T) → Before g totals marks rank j t → Before g (totals-after o) (marks-after o) rank j t
+  keep-before o n rank j t b =
+      let ne = other-node o n j t (b .settled) in
+      record {
+        is-node = b .is-node;
+        settled = getD-set-other totals (o .node) j (Some (o .total)) None ne ∙ b .settled;
+        earlier = subst (λ (m : Mark). m .rank < rank) (sym (getD-set-other marks (o .node) j _ _ ne)) (b .earlier)
+      }
+
+  keep-follows : (o : Tentative T) → Next o → (rank : ℕ) (m : Move) (rest : T) → Follows le nothing add g totals marks rank m rest → Follows le nothing add g (totals-after o) (marks-after o) rank m rest
+  keep-follows o n rank Shut rest f = f
+  keep-follows o n rank (Go next) rest f = keep-before o n rank next rest f
+  keep-follows o n rank (Fork next other) rest f = (f .0, f .1, keep-before o n rank next (f .0) (f .2), keep-before o n rank other (f .1) (f .3), f .4)
+
+  keep-chosen : (o : Tentative T) → Next o → (i rank : ℕ) (c : Choice) (t : T) → Chosen le nothing add g totals marks i rank c t → Chosen le nothing add g (totals-after o) (marks-after o) i rank c t
+  keep-chosen o n i rank End t c = c
+  keep-chosen o n i rank (Take k) t c = (c .0, c .1, c .2, keep-follows o n rank (g .move i k) (c .1) (c .3), c .4)
+
+  -- what is known of a node after the round: it is the one settled now, or it was settled before, and its mark is as it was
+  After : (o : Tentative T) (i : ℕ) (t : T) → Type 0
+  After o i t =
+      ((i ≡ o .node) × (t ≡ o .total) × (mark-at (marks-after o) i ≡ record { choice = o .choice; rank = count }))
+      ⊎ ((total-at totals i ≡ Some t) × (mark-at (marks-after o) i ≡ mark-at marks i))
+
+  after : (o : Tentative T) → Next o → length marks ≡ length totals → (i : ℕ) (t : T) → total-at (totals-after o) i ≡ Some t → After o i t
+  unfolding After
+  after o n marked i t e =
+      elim (cases-eq i (o .node)) [
+        | inl same ↦
+            let f = subst (λ (k : ℕ). total-at (totals-after o) k ≡ Some t) same e in
+            inl (
+              same,
+              some-same (sym f ∙ getD-set-same totals (o .node) (Some (o .total)) None (n .within)),
+              subst (λ (k : ℕ). mark-at (marks-after o) k ≡ record { choice = o .choice; rank = count }) (sym same) (getD-set-same marks (o .node) _ _ (omega (arith, n .within)))
+            )
+        | inr ne ↦ inr (sym (getD-set-other totals (o .node) i (Some (o .total)) None ne) ∙ e, getD-set-other marks (o .node) i _ _ ne)
+      ]
+
+  -- ranks stay below the count of rounds, and apart
+  rank-below : (o : Tentative T) → Next o → (i : ℕ) (t : T) → i < g .size → After o i t → mark-at (marks-after o) i .rank < count + 1
+  unfolding After
+  rank-below o n i t h (inl now) = let e = ap (λ (m : Mark). m .rank) (now .2) in omega (arith, e)
+  rank-below o n i t h (inr was) = let e = ap (λ (m : Mark). m .rank) (was .1) in omega (arith, e, part .ranked i t h (was .0))
+
+  ranks-apart : (o : Tentative T) → Next o → (i j : ℕ) (t u : T) → i < g .size → j < g .size → After o i t → After o j u → mark-at (marks-after o) i .rank ≡ mark-at (marks-after o) j .rank → i ≡ j
+  unfolding After
+  ranks-apart o n i j t u h l (inl a) (inl b) same = a .0 ∙ sym (b .0)
+  ranks-apart o n i j t u h l (inl a) (inr b) same =
+      let e = ap (λ (m : Mark). m .rank) (a .2) in
+      let f = ap (λ (m : Mark). m .rank) (b .1) in
+      absurd (omega (arith, e, f, same, part .ranked j u l (b .0)))
+  ranks-apart o n i j t u h l (inr a) (inl b) same =
+      let e = ap (λ (m : Mark). m .rank) (a .1) in
+      let f = ap (λ (m : Mark). m .rank) (b .2) in
+      absurd (omega (arith, e, f, same, part .ranked i t h (a .0)))
+  ranks-apart o n i j t u h l (inr a) (inr b) same =
+      part .apart i j t u h l (a .0) (b .0) (sym (ap (λ (m : Mark). m .rank) (a .1)) ∙ same ∙ ap (λ (m : Mark). m .rank) (b .1))
+
+  -- a round keeps what is known
+  round-keeps : (o : Tentative T) → best-node le nothing add g totals ≡ Some o → length marks ≡ length totals → Part le nothing add g (totals-after o) (marks-after o) (count + 1)
+  unfolding After
+  round-keeps o best marked =
+      let n = next o best in
+      record {
+        settled = λ i t h e.
+            elim (after o n marked i t e) [
+              | inl now ↦
+                  subst (λ (k : ℕ). Least {P = NumberedWay g k} le (λ p. numbered-total le nothing add p) (Some t)) (sym (now .0))
+                  (subst (λ (v : T). Least {P = NumberedWay g (o .node)} le (λ p. numbered-total le nothing add p) (Some v)) (sym (now .1))
+                  (n .way, best-below-all laws g totals below-all size o best (o .node) (n .within) (n .ahead)))
+              | inr was ↦ part .settled i t h (was .0)
+            ];
+        chosen = λ i t h e.
+            elim (after o n marked i t e) [
+              | inl now ↦
+                  subst (λ (m : Mark). Chosen le nothing add g (totals-after o) (marks-after o) i (m .rank) (m .choice) t) (sym (now .2))
+                  (subst (λ (k : ℕ). Chosen le nothing add g (totals-after o) (marks-after o) k count (o .choice) t) (sym (now .0))
+                  (subst (λ (v : T). Chosen le nothing add g (totals-after o) (marks-after o) (o .node) count (o .choice) v) (sym (now .1))
+                  (keep-chosen o n (o .node) count (o .choice) (o .total) (n .account))))
+              | inr was ↦
+                  subst (λ (m : Mark). Chosen le nothing add g (totals-after o) (marks-after o) i (m .rank) (m .choice) t) (sym (was .1))
+                  (keep-chosen o n i (mark-at marks i .rank) (mark-at marks i .choice) t (part .chosen i t h (was .0)))
+            ];
+        ranked = λ i t h e. rank-below o n i t h (after o n marked i t e);
+        apart = λ i j t u h l e f same. ranks-apart o n i j t u h l (after o n marked i t e) (after o n marked j u f) same
+      }
+  -- the node that a round settles is one
+  pub round-within : (o : Tentative T) → best-node le nothing add g totals ≡ Some o → o .node < length totals
+  round-within o best = next o best .within
+
+  -- the same of the lists that it leaves; and one node less is unsettled
+  pub round-leaves : (o : Tentative T) → best-node le nothing add g totals ≡ Some o → length marks ≡ length totals → (ts : List (Option T)) (ms : List Mark) → ts ≡ set totals (o .node) (Some (o .total)) → ms ≡ set marks (o .node) (record { choice = o .choice; rank = count }) → Part le nothing add g ts ms (count + 1) × (suc (unsettled ts) ≡ unsettled totals)
+  round-leaves o best marked ts ms e f =
+      let n = next o best in
+      (
+        subst (λ (us : List (Option T)). Part le nothing add g us ms (count + 1)) (sym e)
+        (subst (λ (ns : List Mark). Part le nothing add g (totals-after o) ns (count + 1)) (sym f) (round-keeps o best marked)),
+        subst (λ (us : List (Option T)). suc (unsettled us) ≡ unsettled totals) (sym e) (one-settled totals (o .node) (o .total) (n .within) (n .ahead))
+      )
+
+  -- where there is nothing more to settle, all is settled
+  pub all-settled : best-node le nothing add g totals ≡ None → Settled le nothing add g totals marks count
+  all-settled none =
+      record {
+        least = λ i h. each i h (total-at totals i) refl;
+        chosen = part .chosen;
+        ranked = part .ranked;
+        apart = part .apart
+      }
+    where
+      each : (i : ℕ) → i < g .size → (v : Option T) → total-at totals i ≡ v → Least {P = NumberedWay g i} le (λ p. numbered-total le nothing add p) v
+      each i h None e = λ p. none-left laws g totals below-all size none i (omega arith) e p
+      each i h (Some t) e = part .settled i t h e
+
+module _ {T : Type 0} {le : T → T → Bool} {nothing : T} {add : Step → T → T} where
+  -- before the first round no node is settled
+  pub part-none : (g : Graph) (totals : List (Option T)) (marks : List Mark) → ((i : ℕ) → i < g .size → total-at totals i ≡ None) → Part le nothing add g totals marks 0
+  part-none g totals marks none =
+      record {
+        settled = λ i t h e. absurd (none-some (sym (none i h) ∙ e));
+        chosen = λ i t h e. absurd (none-some (sym (none i h) ∙ e));
+        ranked = λ i t h e. absurd (none-some (sym (none i h) ∙ e));
+        apart = λ i j t u h l e f same. absurd (none-some (sym (none i h) ∙ e))
+      }
