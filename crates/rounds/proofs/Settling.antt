@@ -3,7 +3,7 @@
 use mathlib.Core.Path.{_≡_, refl, sym, _∙_, ap, subst}
 use mathlib.Core.Bool.{Bool, true, false, cond}
 use mathlib.Core.Logic.{_⊎_, inl, inr}
-use mathlib.Core.List.{List}
+use mathlib.Core.List.{List, _++_}
 use Prim.Native.Nat.{ℕ, zero, suc, _+_, _<_}
 use native.Mathlib.Omega.{arith}
 use lib.ListN.{length, getD, set}
@@ -21,9 +21,10 @@ use Rattle.rounds.specs.declared.graph.Move.the-variants.{Shut, Go, Fork}
 use Rattle.rounds.specs.declared.graph.Choice.{Choice}
 use Rattle.rounds.specs.declared.graph.Choice.the-variants.{End, Take}
 use Rattle.rounds.specs.declared.graph.Tentative.{Tentative}
-use Rattle.rounds.specs.Graph.{Graph, NumberedWay, end, by-action, by-sensing, numbered-total}
+use Rattle.rounds.specs.Graph.{Graph, graph-of, NumberedWay, end, by-action, by-sensing, numbered-total}
 use Rattle.rounds.specs.Rounds.{total-at, unsettled, both, rest-total, unless-settled, best-below, taken, by-step, by-step-at, best-step, tentative, best-node}
-use Rattle.std.proofs.shelf.Lists.{getD-set-same, getD-set-other}
+use Rattle.std.proofs.shelf.Lists.{getD-set-same, getD-set-other, getD-append-left}
+use Rattle.worlds.specs.declared.step.Step as code-step
 use Rattle.rounds.specs.declared.graph.Mark.{Mark}
 use Rattle.rounds.specs.Settled.{mark-at, Before, Follows, Chosen, Settled}
 use Rattle.rounds.proofs.Lists.{none-some, some-same, cases-some, some-within, one-settled}
@@ -45,6 +46,25 @@ module _ {T : Type 0} (le : T → T → Bool) (nothing : T) (add : Step → T �
     pub apart : (i j : ℕ) (t u : T) → i < g .size → j < g .size → total-at totals i ≡ Some t → total-at totals j ≡ Some u →
         mark-at marks i .rank ≡ mark-at marks j .rank → i ≡ j
 
+-- that settled nodes have the same totals and marks in other lists
+abbrev Stays : {T : Type 0} → (g : Graph) → (ts : List (Option T)) → (ms : List Mark) → (us : List (Option T)) → (ns : List Mark) → Type 0
+Stays {T = T} g ts ms us ns = (i : ℕ) (t : T) → i < g .size → total-at ts i ≡ Some t → (total-at us i ≡ Some t) × (mark-at ns i ≡ mark-at ms i)
+
+module _ {T : Type 0} (le : T → T → Bool) (nothing : T) (add : Step → T → T) (g : Graph) (ts : List (Option T)) (ms : List Mark) (us : List (Option T)) (ns : List Mark) (stays : Stays g ts ms us ns) where
+  stays-before : (rank j : ℕ) (t : T) → Before g ts ms rank j t → Before g us ns rank j t
+  stays-before rank j t b =
+      let s = stays j t (b .is-node) (b .settled) in
+      record { is-node = b .is-node; settled = s .0; earlier = subst (λ (m : Mark). m .rank < rank) (sym (s .1)) (b .earlier) }
+
+  stays-follows : (rank : ℕ) (m : Move) (rest : T) → Follows le g ts ms rank m rest → Follows le g us ns rank m rest
+  stays-follows rank Shut rest f = f
+  stays-follows rank (Go next) rest f = stays-before rank next rest f
+  stays-follows rank (Fork next other) rest f = (f .0, f .1, stays-before rank next (f .0) (f .2), stays-before rank other (f .1) (f .3), f .4)
+
+  stays-chosen : (i rank : ℕ) (c : Choice) (t : T) → Chosen le nothing add g ts ms i rank c t → Chosen le nothing add g us ns i rank c t
+  stays-chosen i rank End t c = c
+  stays-chosen i rank (Take k) t c = (c .0, c .1, c .2, stays-follows rank (g .move i k) (c .1) (c .3), c .4)
+
 module _ {T : Type 0} {le : T → T → Bool} {nothing : T} {add : Step → T → T} (laws : Laws le nothing add) (g : Graph) (totals : List (Option T)) (marks : List Mark) (count : ℕ) (size : g .size ≡ length totals) (part : Part le nothing add g totals marks count) where
   below-all : Below-all laws g totals
   below-all i t h e p = part .settled i t (omega arith) e .1 p
@@ -63,7 +83,7 @@ module _ {T : Type 0} {le : T → T → Bool} {nothing : T} {add : Step → T �
       let h : j < g .size = let l = some-within totals j t e in omega arith in
       record { is-node = h; settled = e; earlier = part .ranked j t h e }
 
-  follows : (m : Move) (rest : T) → rest-total le totals m ≡ Some rest → Follows le nothing add g totals marks count m rest
+  follows : (m : Move) (rest : T) → rest-total le totals m ≡ Some rest → Follows le g totals marks count m rest
   follows Shut rest e = absurd (none-some e)
   follows (Go next) rest e = before next rest e
   follows (Fork next other) rest e =
@@ -134,27 +154,11 @@ module _ {T : Type 0} {le : T → T → Bool} {nothing : T} {add : Step → T �
   abbrev marks-after : Tentative T → List Mark
   marks-after o = set marks (o .node) (record { choice = o .choice; rank = count })
 
-  -- a settled node is another than the one that is settled now
-  other-node : (o : Tentative T) → Next o → (i : ℕ) (t : T) → total-at totals i ≡ Some t → i ≡ o .node → ⊥
-  other-node o n i t e same = none-some (sym (n .ahead) ∙ subst (λ (k : ℕ). total-at totals k ≡ Some t) same e)
-
-  keep-before : (o : Tentative T) → Next o → (rank j : ℕ) (t : T) → Before g totals marks rank j t → Before g (totals-after o) (marks-after o) rank j t
-  keep-before o n rank j t b =
-      let ne = other-node o n j t (b .settled) in
-      record {
-        is-node = b .is-node;
-        settled = getD-set-other totals (o .node) j (Some (o .total)) None ne ∙ b .settled;
-        earlier = subst (λ (m : Mark). m .rank < rank) (sym (getD-set-other marks (o .node) j _ _ ne)) (b .earlier)
-      }
-
-  keep-follows : (o : Tentative T) → Next o → (rank : ℕ) (m : Move) (rest : T) → Follows le nothing add g totals marks rank m rest → Follows le nothing add g (totals-after o) (marks-after o) rank m rest
-  keep-follows o n rank Shut rest f = f
-  keep-follows o n rank (Go next) rest f = keep-before o n rank next rest f
-  keep-follows o n rank (Fork next other) rest f = (f .0, f .1, keep-before o n rank next (f .0) (f .2), keep-before o n rank other (f .1) (f .3), f .4)
-
-  keep-chosen : (o : Tentative T) → Next o → (i rank : ℕ) (c : Choice) (t : T) → Chosen le nothing add g totals marks i rank c t → Chosen le nothing add g (totals-after o) (marks-after o) i rank c t
-  keep-chosen o n i rank End t c = c
-  keep-chosen o n i rank (Take k) t c = (c .0, c .1, c .2, keep-follows o n rank (g .move i k) (c .1) (c .3), c .4)
+  -- a settled node is another than the one that is settled now, and stays as it was
+  stays : (o : Tentative T) → Next o → Stays g totals marks (totals-after o) (marks-after o)
+  stays o n i t h e =
+      let ne : i ≡ o .node → ⊥ = λ same. none-some (sym (n .ahead) ∙ subst (λ (k : ℕ). total-at totals k ≡ Some t) same e) in
+      (getD-set-other totals (o .node) i (Some (o .total)) None ne ∙ e, getD-set-other marks (o .node) i _ _ ne)
 
   -- what is known of a node after the round: it is the one settled now, or it was settled before, and its mark is as it was
   After : (o : Tentative T) (i : ℕ) (t : T) → Type 0
@@ -216,30 +220,30 @@ module _ {T : Type 0} {le : T → T → Bool} {nothing : T} {add : Step → T �
                   subst (λ (m : Mark). Chosen le nothing add g (totals-after o) (marks-after o) i (m .rank) (m .choice) t) (sym (now .2))
                   (subst (λ (k : ℕ). Chosen le nothing add g (totals-after o) (marks-after o) k count (o .choice) t) (sym (now .0))
                   (subst (λ (v : T). Chosen le nothing add g (totals-after o) (marks-after o) (o .node) count (o .choice) v) (sym (now .1))
-                  (keep-chosen o n (o .node) count (o .choice) (o .total) (n .account))))
+                  (stays-chosen le nothing add g totals marks (totals-after o) (marks-after o) (stays o n) (o .node) count (o .choice) (o .total) (n .account))))
               | inr was ↦
                   subst (λ (m : Mark). Chosen le nothing add g (totals-after o) (marks-after o) i (m .rank) (m .choice) t) (sym (was .1))
-                  (keep-chosen o n i (mark-at marks i .rank) (mark-at marks i .choice) t (part .chosen i t h (was .0)))
+                  (stays-chosen le nothing add g totals marks (totals-after o) (marks-after o) (stays o n) i (mark-at marks i .rank) (mark-at marks i .choice) t (part .chosen i t h (was .0)))
             ];
         ranked = λ i t h e. rank-below o n i t h (after o n marked i t e);
         apart = λ i j t u h l e f same. ranks-apart o n i j t u h l (after o n marked i t e) (after o n marked j u f) same
       }
   -- the node that a round settles is one
-  pub round-within : (o : Tentative T) → best-node le nothing add g totals ≡ Some o → o .node < length totals
-  round-within o best = next o best .within
+  pub round-within : (o : Tentative T) → Some o ≡ best-node le nothing add g totals → o .node < length totals
+  round-within o best = next o (sym best) .within
 
   -- the same of the lists that it leaves; and one node less is unsettled
-  pub round-leaves : (o : Tentative T) → best-node le nothing add g totals ≡ Some o → length marks ≡ length totals → (ts : List (Option T)) (ms : List Mark) → ts ≡ set totals (o .node) (Some (o .total)) → ms ≡ set marks (o .node) (record { choice = o .choice; rank = count }) → Part le nothing add g ts ms (count + 1) × (suc (unsettled ts) ≡ unsettled totals)
+  pub round-leaves : (o : Tentative T) → Some o ≡ best-node le nothing add g totals → length marks ≡ length totals → (ts : List (Option T)) (ms : List Mark) → ts ≡ set totals (o .node) (Some (o .total)) → ms ≡ set marks (o .node) (record { choice = o .choice; rank = count }) → Part le nothing add g ts ms (count + 1) × (suc (unsettled ts) ≡ unsettled totals)
   round-leaves o best marked ts ms e f =
-      let n = next o best in
+      let n = next o (sym best) in
       (
         subst (λ (us : List (Option T)). Part le nothing add g us ms (count + 1)) (sym e)
-        (subst (λ (ns : List Mark). Part le nothing add g (totals-after o) ns (count + 1)) (sym f) (round-keeps o best marked)),
+        (subst (λ (ns : List Mark). Part le nothing add g (totals-after o) ns (count + 1)) (sym f) (round-keeps o (sym best) marked)),
         subst (λ (us : List (Option T)). suc (unsettled us) ≡ unsettled totals) (sym e) (one-settled totals (o .node) (o .total) (n .within) (n .ahead))
       )
 
   -- where there is nothing more to settle, all is settled
-  pub all-settled : best-node le nothing add g totals ≡ None → Settled le nothing add g totals marks count
+  pub all-settled : None ≡ best-node le nothing add g totals → Settled le nothing add g totals marks count
   all-settled none =
       record {
         least = λ i h. each i h (total-at totals i) refl;
@@ -249,7 +253,7 @@ module _ {T : Type 0} {le : T → T → Bool} {nothing : T} {add : Step → T �
       }
     where
       each : (i : ℕ) → i < g .size → (v : Option T) → total-at totals i ≡ v → Least {P = NumberedWay g i} le (λ p. numbered-total le nothing add p) v
-      each i h None e = λ p. none-left laws g totals below-all size none i (omega arith) e p
+      each i h None e = λ p. none-left laws g totals below-all size (sym none) i (omega arith) e p
       each i h (Some t) e = part .settled i t h e
 
 module _ {T : Type 0} {le : T → T → Bool} {nothing : T} {add : Step → T → T} where
@@ -262,3 +266,26 @@ module _ {T : Type 0} {le : T → T → Bool} {nothing : T} {add : Step → T �
         ranked = λ i t h e. absurd (none-some (sym (none i h) ∙ e));
         apart = λ i j t u h l e f same. absurd (none-some (sym (none i h) ∙ e))
       }
+
+module _ {T : Type 0} (le : T → T → Bool) (nothing : T) (add : Step → T → T) where
+  -- what is said of a settled graph depends on its nodes' totals and marks only, not on what lies beyond in the lists
+  pub settled-beyond : (g : Graph) (ts : List (Option T)) (ms : List Mark) (us : List (Option T)) (ns : List Mark) (count : ℕ) → ((i : ℕ) → i < g .size → total-at us i ≡ total-at ts i) → ((i : ℕ) → i < g .size → mark-at ns i ≡ mark-at ms i) → Settled le nothing add g ts ms count → Settled le nothing add g us ns count
+  settled-beyond g ts ms us ns count same-total same-mark s =
+      record {
+        least = λ i h. subst (λ (v : Option T). Least {P = NumberedWay g i} le (λ p. numbered-total le nothing add p) v) (sym (same-total i h)) (s .least i h);
+        chosen = λ i t h e.
+            subst (λ (m : Mark). Chosen le nothing add g us ns i (m .rank) (m .choice) t) (sym (same-mark i h))
+            (stays-chosen le nothing add g ts ms us ns (λ j u l f. (same-total j l ∙ f, same-mark j l)) i (mark-at ms i .rank) (mark-at ms i .choice) t (s .chosen i t h (sym (same-total i h) ∙ e)));
+        ranked = λ i t h e. subst (λ (m : Mark). m .rank < count) (sym (same-mark i h)) (s .ranked i t h (sym (same-total i h) ∙ e));
+        apart = λ i j t u h l e f same.
+            s .apart i j t u h l (sym (same-total i h) ∙ e) (sym (same-total j l) ∙ f)
+            (ap (λ (m : Mark). m .rank) (sym (same-mark i h)) ∙ same ∙ ap (λ (m : Mark). m .rank) (same-mark j l))
+      }
+
+  -- the same with more behind both lists
+  pub settled-before-more : (steps : List code-step.Step) (moves : List (List Move)) (ends : List Bool) (size n : ℕ) (ts more : List (Option T)) (ms others : List Mark) (count : ℕ) → size ≡ n → length ts ≡ n → length ms ≡ n → Settled le nothing add (graph-of steps moves ends size) ts ms count → Settled le nothing add (graph-of steps moves ends n) (ts ++ more) (ms ++ others) count
+  settled-before-more steps moves ends size n ts more ms others count same of-totals of-marks s =
+      settled-beyond (graph-of steps moves ends n) ts ms (ts ++ more) (ms ++ others) count
+      (λ i h. getD-append-left ts more None i (omega arith))
+      (λ i h. getD-append-left ms others _ i (omega arith))
+      (subst (λ (k : ℕ). Settled le nothing add (graph-of steps moves ends k) ts ms count) same s)

@@ -2,8 +2,8 @@
 use mathlib.Core.Path.{_≡_}
 use mathlib.Core.Bool.{Bool, true, false}
 use mathlib.Core.List.{List, [], map}
-use Prim.Native.Nat.{ℕ, _<_}
-use lib.ListN.{getD}
+use Prim.Native.Nat.{ℕ, _<_, min}
+use lib.ListN.{length, getD}
 use Rattle.std.specs.declared.option.Option.{Option}
 use Rattle.std.specs.declared.option.Option.the-variants.{Some, None}
 use Rattle.worlds.specs.declared.step.Step as code-step
@@ -31,6 +31,10 @@ graph-of steps moves ends size = record {
   move = λ i k. getD (getD moves i []) k Shut;
   ends = λ i. getD ends i false
 }
+
+-- how many nodes four lists have: those numbers that are places of each
+abbrev pub nodes-in : {A B C D : Type 0} → List A → List B → List C → List D → ℕ
+nodes-in moves ends totals marks = min (min (length moves) (length ends)) (min (length totals) (length marks))
 
 -- a finite procedure from a node: it ends where it may; or it takes a step by a move to nodes, and goes on from each of
 -- them. A move to a number that is not a node is as good as shut

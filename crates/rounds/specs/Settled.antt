@@ -28,7 +28,7 @@ pub record Before {T : Type 0} (g : Graph) (totals : List (Option T)) (marks : L
   pub settled : total-at totals j ≡ Some t
   pub earlier : mark-at marks j .rank < rank
 
-module _ {T : Type 0} (le : T → T → Bool) (nothing : T) (add : Step → T → T) where
+module _ {T : Type 0} (le : T → T → Bool) where
   -- that all nodes that a move leads to were settled before a rank, and that the larger of their totals is `rest`
   abbrev pub Follows : (g : Graph) → List (Option T) → List Mark → (rank : ℕ) → Move → (rest : T) → Type 0
   Follows g totals marks rank Shut rest = ⊥
@@ -36,12 +36,13 @@ module _ {T : Type 0} (le : T → T → Bool) (nothing : T) (add : Step → T �
   Follows g totals marks rank (Fork next other) rest =
       (a : T) × (b : T) × Before g totals marks rank next a × Before g totals marks rank other b × (rest ≡ larger le a b)
 
+module _ {T : Type 0} (le : T → T → Bool) (nothing : T) (add : Step → T → T) where
   -- that a choice at a node accounts for its total: it ends there, at nothing; or the step of that number is added to the
   -- larger total of what follows it, all of which was settled before
   abbrev pub Chosen : (g : Graph) → List (Option T) → List Mark → (i rank : ℕ) → Choice → (t : T) → Type 0
   Chosen g totals marks i rank End t = (g .ends i ≡ true) × (t ≡ nothing)
   Chosen g totals marks i rank (Take k) t =
-      (x : Step) × (rest : T) × (step-at (g .steps) k ≡ Some x) × Follows g totals marks rank (g .move i k) rest × (t ≡ add x rest)
+      (x : Step) × (rest : T) × (step-at (g .steps) k ≡ Some x) × Follows le g totals marks rank (g .move i k) rest × (t ≡ add x rest)
 
   -- that each node has its least total, none exactly where no procedure starts there, and a choice that accounts for it;
   -- and that the ranks of those with a total, of which there are `count`, are different numbers below `count`

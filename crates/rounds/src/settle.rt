@@ -1,9 +1,9 @@
 // Settling a graph, round by round.
 ghost use mathlib.Core.Path.{_≡_};
 ghost use Prim.Native.Nat.{ℕ, _<_};
-ghost use lib.ListN.{length, set};
+ghost use lib.ListN.{length, set, drop};
 ghost use Rattle.std.specs.declared.option.Option.the-variants.{None, Some};
-ghost use Rattle.rounds.specs.Graph.{graph-of};
+ghost use Rattle.rounds.specs.Graph.{graph-of, nodes-in};
 ghost use Rattle.rounds.specs.Rounds.{total-at};
 ghost use Rattle.rounds.specs.Settled.{Settled};
 use crate::graph::Mark;
@@ -39,4 +39,25 @@ fn settle_nodes<T: Tally>(steps: &[Step], moves: &[[Move; 32]], ends: &[bool], t
         count += 1;
     }
     count
+}
+
+fn clear<V: Copy>(totals: &mut [Option<V>])
+    ensures { λ _. ⌜ ((i : ℕ) → i < length (now (totals .exit)) → total-at (now (totals .exit)) i ≡ None) ⌝ }
+{
+    for t in totals.iter_mut() {
+        *t = None;
+    }
+}
+
+// Gives each node the least total of any procedure from it, none exactly where there is none, and marks how and as which it
+// was settled. Answers how many have a total. What the lists have beyond the nodes stays as it was.
+pub fn settle<T: Tally>(steps: &[Step], moves: &[[Move; 32]], ends: &[bool], totals: &mut [Option<T::Total>], marks: &mut [Mark]) -> usize
+    ensures settled { λ r. ⌜ Settled (T·Tally .le) (T·Tally .nothing) (T·Tally .add) (graph-of (now (steps .entry)) (now (moves .entry)) (now (ends .entry)) (nodes-in (now (moves .entry)) (now (ends .entry)) (now (totals .entry)) (now (marks .entry)))) (now (totals .exit)) (now (marks .exit)) r ⌝ }
+    ensures totals_beyond { λ _. ⌜ drop (nodes-in (now (moves .entry)) (now (ends .entry)) (now (totals .entry)) (now (marks .entry))) (now (totals .exit)) ≡ drop (nodes-in (now (moves .entry)) (now (ends .entry)) (now (totals .entry)) (now (marks .entry))) (now (totals .entry)) ⌝ }
+    ensures marks_beyond { λ _. ⌜ drop (nodes-in (now (moves .entry)) (now (ends .entry)) (now (totals .entry)) (now (marks .entry))) (now (marks .exit)) ≡ drop (nodes-in (now (moves .entry)) (now (ends .entry)) (now (totals .entry)) (now (marks .entry))) (now (marks .entry)) ⌝ }
+{
+    let size = moves.len().min(ends.len()).min(totals.len().min(marks.len()));
+    let nodes = &mut totals[..size];
+    clear(nodes);
+    settle_nodes::<T>(steps, moves, ends, nodes, &mut marks[..size])
 }
