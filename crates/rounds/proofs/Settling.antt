@@ -5,11 +5,12 @@ use mathlib.Core.Bool.{Bool, true, false, cond}
 use mathlib.Core.Logic.{_⊎_, inl, inr}
 use mathlib.Core.List.{List, _++_}
 use Prim.Native.Nat.{ℕ, zero, suc, _+_, _<_}
+use native.Mathlib.Nat.{not-suc-le-zero}
 use native.Mathlib.Omega.{arith}
 use lib.ListN.{length, getD, set}
 use Rattle.std.specs.declared.option.Option.{Option}
 use Rattle.std.specs.declared.option.Option.the-variants.{Some, None}
-use Rattle.std.proofs.shelf.Tests.{cases-bool, cases-eq, cond-true, cond-false}
+use Rattle.std.proofs.shelf.Tests.{cases-bool, cases-eq, cases-lt, cond-true, cond-false}
 use Rattle.worlds.specs.Steps.{Step}
 use Rattle.worlds.specs.Tickets.{step-at}
 use Rattle.tally.specs.Laws.{Laws}
@@ -26,7 +27,7 @@ use Rattle.rounds.specs.Rounds.{total-at, unsettled, both, rest-total, unless-
 use Rattle.std.proofs.shelf.Lists.{getD-set-same, getD-set-other, getD-append-left}
 use Rattle.worlds.specs.declared.step.Step as code-step
 use Rattle.rounds.specs.declared.graph.Mark.{Mark}
-use Rattle.rounds.specs.Settled.{mark-at, Before, Follows, Chosen, Settled}
+use Rattle.rounds.specs.Settled.{mark-at, Before, Follows, Chosen, Marked, Settled}
 use Rattle.rounds.proofs.Lists.{none-some, some-same, cases-some, some-within, one-settled}
 use Rattle.rounds.proofs.Scans.{best-one}
 use Rattle.rounds.proofs.Cut.{Below-all, best-below-all, none-left}
@@ -38,13 +39,10 @@ both-some le (Some a) None r e = absurd (none-some e)
 both-some le (Some a) (Some b) r e = (a, b, refl, refl, sym (some-same e))
 
 module _ {T : Type 0} (le : T → T → Bool) (nothing : T) (add : Step → T → T) where
-  -- what is known after `count` rounds: each settled node has its least total, and a choice that accounts for it
+  -- what is known after `count` rounds: each settled node has its least total, and the marks tell how
   pub record Part (g : Graph) (totals : List (Option T)) (marks : List Mark) (count : ℕ) : Type 0 where
     pub settled : (i : ℕ) (t : T) → i < g .size → total-at totals i ≡ Some t → Least {P = NumberedWay g i} le (λ p. numbered-total le nothing add p) (Some t)
-    pub chosen : (i : ℕ) (t : T) → i < g .size → total-at totals i ≡ Some t → Chosen le nothing add g totals marks i (mark-at marks i .rank) (mark-at marks i .choice) t
-    pub ranked : (i : ℕ) (t : T) → i < g .size → total-at totals i ≡ Some t → mark-at marks i .rank < count
-    pub apart : (i j : ℕ) (t u : T) → i < g .size → j < g .size → total-at totals i ≡ Some t → total-at totals j ≡ Some u →
-        mark-at marks i .rank ≡ mark-at marks j .rank → i ≡ j
+    pub marked : Marked le nothing add g totals marks count
 
 -- that settled nodes have the same totals and marks in other lists
 abbrev Stays : {T : Type 0} → (g : Graph) → (ts : List (Option T)) → (ms : List Mark) → (us : List (Option T)) → (ns : List Mark) → Type 0
@@ -81,7 +79,7 @@ module _ {T : Type 0} {le : T → T → Bool} {nothing : T} {add : Step → T �
   before : (j : ℕ) (t : T) → total-at totals j ≡ Some t → Before g totals marks count j t
   before j t e =
       let h : j < g .size = let l = some-within totals j t e in omega arith in
-      record { is-node = h; settled = e; earlier = part .ranked j t h e }
+      record { is-node = h; settled = e; earlier = part .marked .ranked j t h e }
 
   follows : (m : Move) (rest : T) → rest-total le totals m ≡ Some rest → Follows le g totals marks count m rest
   follows Shut rest e = absurd (none-some e)
@@ -168,7 +166,7 @@ module _ {T : Type 0} {le : T → T → Bool} {nothing : T} {add : Step → T �
 
   after : (o : Tentative T) → Next o → length marks ≡ length totals → (i : ℕ) (t : T) → total-at (totals-after o) i ≡ Some t → After o i t
   unfolding After
-  after o n marked i t e =
+  after o n of-marks i t e =
       elim (cases-eq i (o .node)) [
         | inl same ↦
             let f = subst (λ (k : ℕ). total-at (totals-after o) k ≡ Some t) same e in
@@ -180,65 +178,90 @@ module _ {T : Type 0} {le : T → T → Bool} {nothing : T} {add : Step → T �
         | inr ne ↦ inr (sym (getD-set-other totals (o .node) i (Some (o .total)) None ne) ∙ e, getD-set-other marks (o .node) i _ _ ne)
       ]
 
-  -- ranks stay below the count of rounds, and apart
-  rank-below : (o : Tentative T) → Next o → (i : ℕ) (t : T) → i < g .size → After o i t → mark-at (marks-after o) i .rank < count + 1
+  -- ranks stay below the count of rounds, apart, and each of some node
+  rank-below : (o : Tentative T) → (i : ℕ) (t : T) → i < g .size → After o i t → mark-at (marks-after o) i .rank < count + 1
   unfolding After
-  rank-below o n i t h (inl now) = let e = ap (λ (m : Mark). m .rank) (now .2) in omega (arith, e)
-  rank-below o n i t h (inr was) = let e = ap (λ (m : Mark). m .rank) (was .1) in omega (arith, e, part .ranked i t h (was .0))
+  rank-below o i t h (inl now) = let e = ap (λ (m : Mark). m .rank) (now .2) in omega (arith, e)
+  rank-below o i t h (inr was) = let e = ap (λ (m : Mark). m .rank) (was .1) in omega (arith, e, part .marked .ranked i t h (was .0))
 
-  ranks-apart : (o : Tentative T) → Next o → (i j : ℕ) (t u : T) → i < g .size → j < g .size → After o i t → After o j u → mark-at (marks-after o) i .rank ≡ mark-at (marks-after o) j .rank → i ≡ j
+  ranks-apart : (o : Tentative T) → (i j : ℕ) (t u : T) → i < g .size → j < g .size → After o i t → After o j u → mark-at (marks-after o) i .rank ≡ mark-at (marks-after o) j .rank → i ≡ j
   unfolding After
-  ranks-apart o n i j t u h l (inl a) (inl b) same = a .0 ∙ sym (b .0)
-  ranks-apart o n i j t u h l (inl a) (inr b) same =
+  ranks-apart o i j t u h l (inl a) (inl b) same = a .0 ∙ sym (b .0)
+  ranks-apart o i j t u h l (inl a) (inr b) same =
       let e = ap (λ (m : Mark). m .rank) (a .2) in
       let f = ap (λ (m : Mark). m .rank) (b .1) in
-      absurd (omega (arith, e, f, same, part .ranked j u l (b .0)))
-  ranks-apart o n i j t u h l (inr a) (inl b) same =
+      absurd (omega (arith, e, f, same, part .marked .ranked j u l (b .0)))
+  ranks-apart o i j t u h l (inr a) (inl b) same =
       let e = ap (λ (m : Mark). m .rank) (a .1) in
       let f = ap (λ (m : Mark). m .rank) (b .2) in
-      absurd (omega (arith, e, f, same, part .ranked i t h (a .0)))
-  ranks-apart o n i j t u h l (inr a) (inr b) same =
-      part .apart i j t u h l (a .0) (b .0) (sym (ap (λ (m : Mark). m .rank) (a .1)) ∙ same ∙ ap (λ (m : Mark). m .rank) (b .1))
+      absurd (omega (arith, e, f, same, part .marked .ranked i t h (a .0)))
+  ranks-apart o i j t u h l (inr a) (inr b) same =
+      part .marked .apart i j t u h l (a .0) (b .0) (sym (ap (λ (m : Mark). m .rank) (a .1)) ∙ same ∙ ap (λ (m : Mark). m .rank) (b .1))
+
+  rank-of-each : (o : Tentative T) → Next o → length marks ≡ length totals → (r : ℕ) → r < count + 1 → (i : ℕ) × (t : T) × (i < g .size) × (total-at (totals-after o) i ≡ Some t) × (mark-at (marks-after o) i .rank ≡ r)
+  rank-of-each o n of-marks r h =
+      elim (cases-lt r count) [
+        | inl l ↦
+            let k = part .marked .each-rank r l in
+            let s = stays o n (k .0) (k .1) (k .2) (k .3) in
+            (k .0, k .1, k .2, s .0, ap (λ (m : Mark). m .rank) (s .1) ∙ k .4)
+        | inr l ↦
+            let now : count ≡ r = omega arith in
+            (
+              o .node,
+              o .total,
+              omega (arith, n .within),
+              getD-set-same totals (o .node) (Some (o .total)) None (n .within),
+              ap (λ (m : Mark). m .rank) (getD-set-same marks (o .node) (record { choice = o .choice; rank = count }) _ (omega (arith, n .within))) ∙ now
+            )
+      ]
+
+  -- a choice accounts for each node after the round
+  chosen-after : (o : Tentative T) → Next o → (i : ℕ) (t : T) → i < g .size → After o i t → Chosen le nothing add g (totals-after o) (marks-after o) i (mark-at (marks-after o) i .rank) (mark-at (marks-after o) i .choice) t
+  unfolding After
+  chosen-after o n i t h (inl now) =
+      subst (λ (m : Mark). Chosen le nothing add g (totals-after o) (marks-after o) i (m .rank) (m .choice) t) (sym (now .2))
+      (subst (λ (k : ℕ). Chosen le nothing add g (totals-after o) (marks-after o) k count (o .choice) t) (sym (now .0))
+      (subst (λ (v : T). Chosen le nothing add g (totals-after o) (marks-after o) (o .node) count (o .choice) v) (sym (now .1))
+      (stays-chosen le nothing add g totals marks (totals-after o) (marks-after o) (stays o n) (o .node) count (o .choice) (o .total) (n .account))))
+  chosen-after o n i t h (inr was) =
+      subst (λ (m : Mark). Chosen le nothing add g (totals-after o) (marks-after o) i (m .rank) (m .choice) t) (sym (was .1))
+      (stays-chosen le nothing add g totals marks (totals-after o) (marks-after o) (stays o n) i (mark-at marks i .rank) (mark-at marks i .choice) t (part .marked .chosen i t h (was .0)))
+
+  -- each settled total is the least, also that of this round
+  least-after : (o : Tentative T) → best-node le nothing add g totals ≡ Some o → Next o → (i : ℕ) (t : T) → i < g .size → After o i t → Least {P = NumberedWay g i} le (λ p. numbered-total le nothing add p) (Some t)
+  unfolding After
+  least-after o best n i t h (inl now) =
+      subst (λ (k : ℕ). Least {P = NumberedWay g k} le (λ p. numbered-total le nothing add p) (Some t)) (sym (now .0))
+      (subst (λ (v : T). Least {P = NumberedWay g (o .node)} le (λ p. numbered-total le nothing add p) (Some v)) (sym (now .1))
+      (n .way, best-below-all laws g totals below-all size o best (o .node) (n .within) (n .ahead)))
+  least-after o best n i t h (inr was) = part .settled i t h (was .0)
 
   -- a round keeps what is known
   round-keeps : (o : Tentative T) → best-node le nothing add g totals ≡ Some o → length marks ≡ length totals → Part le nothing add g (totals-after o) (marks-after o) (count + 1)
-  unfolding After
-  round-keeps o best marked =
+  round-keeps o best of-marks =
       let n = next o best in
       record {
-        settled = λ i t h e.
-            elim (after o n marked i t e) [
-              | inl now ↦
-                  subst (λ (k : ℕ). Least {P = NumberedWay g k} le (λ p. numbered-total le nothing add p) (Some t)) (sym (now .0))
-                  (subst (λ (v : T). Least {P = NumberedWay g (o .node)} le (λ p. numbered-total le nothing add p) (Some v)) (sym (now .1))
-                  (n .way, best-below-all laws g totals below-all size o best (o .node) (n .within) (n .ahead)))
-              | inr was ↦ part .settled i t h (was .0)
-            ];
-        chosen = λ i t h e.
-            elim (after o n marked i t e) [
-              | inl now ↦
-                  subst (λ (m : Mark). Chosen le nothing add g (totals-after o) (marks-after o) i (m .rank) (m .choice) t) (sym (now .2))
-                  (subst (λ (k : ℕ). Chosen le nothing add g (totals-after o) (marks-after o) k count (o .choice) t) (sym (now .0))
-                  (subst (λ (v : T). Chosen le nothing add g (totals-after o) (marks-after o) (o .node) count (o .choice) v) (sym (now .1))
-                  (stays-chosen le nothing add g totals marks (totals-after o) (marks-after o) (stays o n) (o .node) count (o .choice) (o .total) (n .account))))
-              | inr was ↦
-                  subst (λ (m : Mark). Chosen le nothing add g (totals-after o) (marks-after o) i (m .rank) (m .choice) t) (sym (was .1))
-                  (stays-chosen le nothing add g totals marks (totals-after o) (marks-after o) (stays o n) i (mark-at marks i .rank) (mark-at marks i .choice) t (part .chosen i t h (was .0)))
-            ];
-        ranked = λ i t h e. rank-below o n i t h (after o n marked i t e);
-        apart = λ i j t u h l e f same. ranks-apart o n i j t u h l (after o n marked i t e) (after o n marked j u f) same
+        settled = λ i t h e. least-after o best n i t h (after o n of-marks i t e);
+        marked = record {
+          chosen = λ i t h e. chosen-after o n i t h (after o n of-marks i t e);
+          ranked = λ i t h e. rank-below o i t h (after o n of-marks i t e);
+          apart = λ i j t u h l e f same. ranks-apart o i j t u h l (after o n of-marks i t e) (after o n of-marks j u f) same;
+          each-rank = rank-of-each o n of-marks
+        }
       }
+
   -- the node that a round settles is one
   pub round-within : (o : Tentative T) → Some o ≡ best-node le nothing add g totals → o .node < length totals
   round-within o best = next o (sym best) .within
 
   -- the same of the lists that it leaves; and one node less is unsettled
   pub round-leaves : (o : Tentative T) → Some o ≡ best-node le nothing add g totals → length marks ≡ length totals → (ts : List (Option T)) (ms : List Mark) → ts ≡ set totals (o .node) (Some (o .total)) → ms ≡ set marks (o .node) (record { choice = o .choice; rank = count }) → Part le nothing add g ts ms (count + 1) × (suc (unsettled ts) ≡ unsettled totals)
-  round-leaves o best marked ts ms e f =
+  round-leaves o best of-marks ts ms e f =
       let n = next o (sym best) in
       (
         subst (λ (us : List (Option T)). Part le nothing add g us ms (count + 1)) (sym e)
-        (subst (λ (ns : List Mark). Part le nothing add g (totals-after o) ns (count + 1)) (sym f) (round-keeps o (sym best) marked)),
+        (subst (λ (ns : List Mark). Part le nothing add g (totals-after o) ns (count + 1)) (sym f) (round-keeps o (sym best) of-marks)),
         subst (λ (us : List (Option T)). suc (unsettled us) ≡ unsettled totals) (sym e) (one-settled totals (o .node) (o .total) (n .within) (n .ahead))
       )
 
@@ -247,9 +270,7 @@ module _ {T : Type 0} {le : T → T → Bool} {nothing : T} {add : Step → T �
   all-settled none =
       record {
         least = λ i h. each i h (total-at totals i) refl;
-        chosen = part .chosen;
-        ranked = part .ranked;
-        apart = part .apart
+        marked = part .marked
       }
     where
       each : (i : ℕ) → i < g .size → (v : Option T) → total-at totals i ≡ v → Least {P = NumberedWay g i} le (λ p. numbered-total le nothing add p) v
@@ -262,9 +283,12 @@ module _ {T : Type 0} {le : T → T → Bool} {nothing : T} {add : Step → T �
   part-none g totals marks none =
       record {
         settled = λ i t h e. absurd (none-some (sym (none i h) ∙ e));
-        chosen = λ i t h e. absurd (none-some (sym (none i h) ∙ e));
-        ranked = λ i t h e. absurd (none-some (sym (none i h) ∙ e));
-        apart = λ i j t u h l e f same. absurd (none-some (sym (none i h) ∙ e))
+        marked = record {
+          chosen = λ i t h e. absurd (none-some (sym (none i h) ∙ e));
+          ranked = λ i t h e. absurd (none-some (sym (none i h) ∙ e));
+          apart = λ i j t u h l e f same. absurd (none-some (sym (none i h) ∙ e));
+          each-rank = λ r h. absurd (not-suc-le-zero h)
+        }
       }
 
 module _ {T : Type 0} (le : T → T → Bool) (nothing : T) (add : Step → T → T) where
@@ -273,13 +297,18 @@ module _ {T : Type 0} (le : T → T → Bool) (nothing : T) (add : Step → T �
   settled-beyond g ts ms us ns count same-total same-mark s =
       record {
         least = λ i h. subst (λ (v : Option T). Least {P = NumberedWay g i} le (λ p. numbered-total le nothing add p) v) (sym (same-total i h)) (s .least i h);
-        chosen = λ i t h e.
-            subst (λ (m : Mark). Chosen le nothing add g us ns i (m .rank) (m .choice) t) (sym (same-mark i h))
-            (stays-chosen le nothing add g ts ms us ns (λ j u l f. (same-total j l ∙ f, same-mark j l)) i (mark-at ms i .rank) (mark-at ms i .choice) t (s .chosen i t h (sym (same-total i h) ∙ e)));
-        ranked = λ i t h e. subst (λ (m : Mark). m .rank < count) (sym (same-mark i h)) (s .ranked i t h (sym (same-total i h) ∙ e));
-        apart = λ i j t u h l e f same.
-            s .apart i j t u h l (sym (same-total i h) ∙ e) (sym (same-total j l) ∙ f)
-            (ap (λ (m : Mark). m .rank) (sym (same-mark i h)) ∙ same ∙ ap (λ (m : Mark). m .rank) (same-mark j l))
+        marked = record {
+          chosen = λ i t h e.
+              subst (λ (m : Mark). Chosen le nothing add g us ns i (m .rank) (m .choice) t) (sym (same-mark i h))
+              (stays-chosen le nothing add g ts ms us ns (λ j u l f. (same-total j l ∙ f, same-mark j l)) i (mark-at ms i .rank) (mark-at ms i .choice) t (s .marked .chosen i t h (sym (same-total i h) ∙ e)));
+          ranked = λ i t h e. subst (λ (m : Mark). m .rank < count) (sym (same-mark i h)) (s .marked .ranked i t h (sym (same-total i h) ∙ e));
+          apart = λ i j t u h l e f same.
+              s .marked .apart i j t u h l (sym (same-total i h) ∙ e) (sym (same-total j l) ∙ f)
+              (ap (λ (m : Mark). m .rank) (sym (same-mark i h)) ∙ same ∙ ap (λ (m : Mark). m .rank) (same-mark j l));
+          each-rank = λ r h.
+              let k = s .marked .each-rank r h in
+              (k .0, k .1, k .2, same-total (k .0) (k .2) ∙ k .3, ap (λ (m : Mark). m .rank) (same-mark (k .0) (k .2)) ∙ k .4)
+        }
       }
 
   -- the same with more behind both lists

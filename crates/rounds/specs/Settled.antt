@@ -44,11 +44,16 @@ module _ {T : Type 0} (le : T → T → Bool) (nothing : T) (add : Step → T �
   Chosen g totals marks i rank (Take k) t =
       (x : Step) × (rest : T) × (step-at (g .steps) k ≡ Some x) × Follows le g totals marks rank (g .move i k) rest × (t ≡ add x rest)
 
-  -- that each node has its least total, none exactly where no procedure starts there, and a choice that accounts for it;
-  -- and that the ranks of those with a total, of which there are `count`, are different numbers below `count`
-  pub record Settled (g : Graph) (totals : List (Option T)) (marks : List Mark) (count : ℕ) : Type 0 where
-    pub least : (i : ℕ) → i < g .size → Least {P = NumberedWay g i} le (λ p. numbered-total le nothing add p) (total-at totals i)
+  -- that the marks tell how the nodes with a total were settled: each by a choice that accounts for it, in an order whose
+  -- ranks are the numbers below `count`, each of one node
+  pub record Marked (g : Graph) (totals : List (Option T)) (marks : List Mark) (count : ℕ) : Type 0 where
     pub chosen : (i : ℕ) (t : T) → i < g .size → total-at totals i ≡ Some t → Chosen g totals marks i (mark-at marks i .rank) (mark-at marks i .choice) t
     pub ranked : (i : ℕ) (t : T) → i < g .size → total-at totals i ≡ Some t → mark-at marks i .rank < count
     pub apart : (i j : ℕ) (t u : T) → i < g .size → j < g .size → total-at totals i ≡ Some t → total-at totals j ≡ Some u →
         mark-at marks i .rank ≡ mark-at marks j .rank → i ≡ j
+    pub each-rank : (r : ℕ) → r < count → (i : ℕ) × (t : T) × (i < g .size) × (total-at totals i ≡ Some t) × (mark-at marks i .rank ≡ r)
+
+  -- that each node has its least total, none exactly where no procedure starts there, and that the marks tell how
+  pub record Settled (g : Graph) (totals : List (Option T)) (marks : List Mark) (count : ℕ) : Type 0 where
+    pub least : (i : ℕ) → i < g .size → Least {P = NumberedWay g i} le (λ p. numbered-total le nothing add p) (total-at totals i)
+    pub marked : Marked g totals marks count
