@@ -1,0 +1,3 @@
+pub mod graph;
+pub mod rounds;
+pub mod settle;
