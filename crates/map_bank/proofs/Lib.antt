@@ -1,4 +1,7 @@
 pub mod BitLaws
+pub mod HeldLaws
 pub mod NumberLaws
+pub mod PlaceLaws
+pub mod RowLaws
 pub mod TruthTable
 pub mod WordLaws

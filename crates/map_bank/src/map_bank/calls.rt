@@ -1,0 +1,1 @@
+use crate::map_bank::MapBank;
