@@ -3,5 +3,6 @@ pub mod HeldLaws
 pub mod NumberLaws
 pub mod PlaceLaws
 pub mod RowLaws
+pub mod StepLaws
 pub mod TruthTable
 pub mod WordLaws

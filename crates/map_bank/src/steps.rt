@@ -13,12 +13,19 @@ use worlds::step::Literal;
 use worlds::step::Outcome;
 use worlds::step::Step;
 
-// Whether every literal of a list speaks of one of the conditions 1 to n.
+// Whether a literal speaks of one of the conditions 1 to n.
+fn speaks(literal: Literal, n: u16) -> bool
+    ensures { λ r. ⌜ r ≡ speaks-within n literal ⌝ }
+{
+    literal != 0 && literal.unsigned_abs() <= n
+}
+
+// Whether every literal of a list does.
 pub(crate) fn speak_within(list: &[Literal], n: u16) -> bool
     ensures { λ r. ⌜ r ≡ every (speaks-within n) (now (list .entry)) ⌝ }
 {
     for literal in list {
-        if *literal == 0 || literal.unsigned_abs() > n {
+        if !speaks(*literal, n) {
             return false;
         }
     }
@@ -37,9 +44,12 @@ fn step_at(ticket: &Ticket, step: usize) -> Option<Step>
 pub(crate) fn outcomes_at(ticket: &Ticket, step: usize) -> Option<Few<Outcome, 4>>
     ensures { λ r. ⌜ outcomes-in r ≡ outcomes-of (step-at (ticket-of (now (ticket .entry)) .steps) step) ⌝ }
 {
-    match step_at(ticket, step) {
-        Some(Step::Action(action)) => Some(action.outcomes),
-        _ => None,
+    let Some(found) = step_at(ticket, step) else {
+        return None;
+    };
+    match found {
+        Step::Action(action) => Some(action.outcomes),
+        Step::Sensing(_) => None,
     }
 }
 
@@ -47,8 +57,11 @@ pub(crate) fn outcomes_at(ticket: &Ticket, step: usize) -> Option<Few<Outcome, 4
 pub(crate) fn sensed_at(ticket: &Ticket, step: usize) -> Option<Literal>
     ensures { λ r. ⌜ r ≡ sensed-of (step-at (ticket-of (now (ticket .entry)) .steps) step) ⌝ }
 {
-    match step_at(ticket, step) {
-        Some(Step::Sensing(sensing)) => Some(sensing.sensed),
-        _ => None,
+    let Some(found) = step_at(ticket, step) else {
+        return None;
+    };
+    match found {
+        Step::Action(_) => None,
+        Step::Sensing(sensing) => Some(sensing.sensed),
     }
 }
