@@ -1,8 +1,11 @@
 pub mod BitLaws
+pub mod CallLaws
+pub mod CanonLaws
 pub mod HeldLaws
 pub mod NumberLaws
 pub mod PlaceLaws
 pub mod RowLaws
 pub mod StepLaws
+pub mod TicketLaws
 pub mod TruthTable
 pub mod WordLaws

@@ -45,7 +45,9 @@ impl Bank for MapBank as MapBankBank {
         let Some(outcomes) = outcomes_at(&self.ticket, step) else {
             return Err(BankFault::WrongStep);
         };
-        self.put(&next_row(&row, self.ticket.conditions(), outcomes.as_slice()))
+        let n = self.ticket.conditions();
+        let made = next_row(&row, n, outcomes.as_slice());
+        self.put(&made)
     }
 
     fn split(&mut self, set: usize, step: usize, so: bool) -> Result<usize, BankFault> {

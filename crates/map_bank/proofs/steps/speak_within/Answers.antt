@@ -1,5 +1,6 @@
 use mathlib.Core.Path.{_≡_, refl, sym, _∙_, ap}
 use mathlib.Core.Bool.{Bool, true, false, _&&_}
+use Prim.Native.Nat.{_+_}
 use native.Mathlib.Omega.{arith}
 use lib.IntN.{pos}
 use lib.ListN.{getD, drop}
@@ -16,10 +17,18 @@ pub loop-literal-holds : need.loop-literal-holds
 loop-literal-holds c = refl
 
 pub loop-literal-again : need.loop-literal-again
-loop-literal-again c = let e = c .speaks .ensures in ?
+loop-literal-again c =
+    let fits : SFits w16 (getD (c .args .list .now) (c .loop-literal .literal-index) (pos 0)) = search needs in
+    let so : true ≡ speaks-within (c .args .n) (getD (c .args .list .now) (c .loop-literal .literal-index) (pos 0)) = simp toZ-ofZ at (c .if-not-speaks .ensures tt) in
+    c .loop-literal .inv ∙ every-step (speaks-within (c .args .n)) (c .args .list .now) (c .loop-literal .literal-index) (pos 0) (c .loop-literal-test .taken)
+    ∙ ap (λ (b : Bool). b && every (speaks-within (c .args .n)) (drop (c .loop-literal .literal-index + 1) (c .args .list .now))) (sym so)
 
-pub returns-then-speaks : need.returns-then-speaks
-returns-then-speaks c = ?
+pub returns-then-not-speaks : need.returns-then-not-speaks
+returns-then-not-speaks c =
+    let fits : SFits w16 (getD (c .args .list .now) (c .loop-literal .literal-index) (pos 0)) = search needs in
+    let so : false ≡ speaks-within (c .args .n) (getD (c .args .list .now) (c .loop-literal .literal-index) (pos 0)) = simp toZ-ofZ at (c .if-not-speaks .ensures tt) in
+    sym (c .loop-literal .inv ∙ every-step (speaks-within (c .args .n)) (c .args .list .now) (c .loop-literal .literal-index) (pos 0) (c .loop-literal-test .taken)
+    ∙ ap (λ (b : Bool). b && every (speaks-within (c .args .n)) (drop (c .loop-literal .literal-index + 1) (c .args .list .now))) (sym so))
 
 pub returns : need.returns
 returns c = sym (c .loop-literal .inv ∙ every-end _ (c .args .list .now) (c .loop-literal .literal-index) (omega arith))

@@ -1,0 +1,72 @@
+-- A tidy row is the one row of its set.
+-- Assumes nothing.
+use mathlib.Core.Path.{_≡_, refl, sym, _∙_, ap, subst}
+use mathlib.Core.Bool.{Bool, true, false, _&&_, cond}
+use mathlib.Core.List.{List, [], _∷_}
+use mathlib.Core.Logic.{inl, inr}
+use Prim.Native.Nat.{ℕ, zero, suc, _+_, _-_, _*_, _/_, _%_, _^_, _≤_, _<_}
+use native.Mathlib.Nat.{pow-suc, zero-add}
+use native.Mathlib.Omega.{arith}
+use lib.Dec.{ltb}
+use lib.ListN.{length, getD}
+use Rattle.std.proofs.shelf.Lists.{ext-getD}
+use Rattle.std.proofs.shelf.Tests.{cases-lt, lt-ltb, le-ltb}
+use Rattle.worlds.specs.Sets.{Worlds}
+use Rattle.map_bank.specs.Bits.{bit}
+use Rattle.map_bank.specs.Canon.{word-by, words-by, row-of}
+use Rattle.map_bank.specs.Numbers.{number, world-of, in-words, set-of}
+use Rattle.map_bank.specs.Rows.{Tidy}
+use Rattle.map_bank.proofs.BitLaws.{bit-lowest, bit-above, same-bits}
+use Rattle.map_bank.proofs.NumberLaws.{number-of-world, lowest-digit, digits-above, digit-below}
+
+bit-by : (m : ℕ) (test : ℕ → Bool) (i : ℕ) → i < m → bit (word-by m test) i ≡ test i
+unfolding word-by
+bit-by zero test i h = absurd (omega arith)
+bit-by (suc m) test zero h = bit-lowest (word-by (suc m) test) ∙ lowest-digit (test 0) (word-by m (λ k. test (suc k)))
+bit-by (suc m) test (suc i) h =
+    bit-above (word-by (suc m) test) i ∙ ap (λ (x : ℕ). bit x i) (digits-above (test 0) (word-by m (λ k. test (suc k))))
+    ∙ bit-by m (λ k. test (suc k)) i (omega arith)
+
+by-lt : (m : ℕ) (test : ℕ → Bool) → word-by m test < 2 ^ m
+unfolding word-by
+by-lt zero test = omega arith
+by-lt (suc m) test =
+    subst (λ (x : ℕ). word-by (suc m) test < x) (sym (pow-suc 2 m)) (digit-below (test 0) (word-by m (λ k. test (suc k))) (2 ^ m) (by-lt m (λ k. test (suc k))))
+
+length-by : (count : ℕ) (test : ℕ → Bool) → length (words-by count test) ≡ count
+unfolding words-by
+length-by zero test = refl
+length-by (suc count) test = ap suc (length-by count (λ k. test (64 + k)))
+
+at-by : (count : ℕ) (test : ℕ → Bool) (j : ℕ) → j < count → (b : ℕ) → b < 64 → (getD (words-by count test) j 0 < 2 ^ 64) × (bit (getD (words-by count test) j 0) b ≡ test (64 * j + b))
+unfolding words-by
+at-by zero test j h b hb = absurd (omega arith)
+at-by (suc count) test zero h b hb = (by-lt 64 test, bit-by 64 test b hb ∙ ap test (sym (zero-add b)))
+at-by (suc count) test (suc j) h b hb =
+    let rest = at-by count (λ k. test (64 + k)) j (omega arith) b hb in
+    let further : 64 + (64 * j + b) ≡ 64 * suc j + b = omega arith in
+    (rest .0, rest .1 ∙ ap test further)
+
+pub row-is-of : (n : ℕ) (row : List ℕ) → n ≤ 10 → length row ≡ 16 → ((i : ℕ) → getD row i 0 < 2 ^ 64) → Tidy n row → row ≡ row-of n (set-of n row)
+unfolding row-of
+row-is-of n row few long fits tidy =
+    ext-getD 0 row (words-by 16 test) (long ∙ sym (length-by 16 test)) (λ j h. let hj : j < 16 = subst (λ (k : ℕ). j < k) long h in
+    same-bits (getD row j 0) (getD (words-by 16 test) j 0) (fits j) (at-by 16 test j hj 0 (omega arith) .0) (λ b hb. sym (at-by 16 test j hj b hb .1 ∙ here j b hj hb)))
+  where
+    abbrev test : ℕ → Bool
+    test = λ k. ltb k (2 ^ n) && set-of n row (world-of n k)
+    in-row : (j b : ℕ) → b < 64 → in-words row (64 * j + b) ≡ bit (getD row j 0) b
+    in-row j b hb =
+        let q : (64 * j + b) / 64 ≡ j = omega arith in
+        let r : (64 * j + b) % 64 ≡ b = omega arith in
+        ap (λ (x : ℕ). bit (getD row x 0) ((64 * j + b) % 64)) q ∙ ap (λ (x : ℕ). bit (getD row j 0) x) r
+    here : (j b : ℕ) → j < 16 → b < 64 → (ltb (64 * j + b) (2 ^ n) && set-of n row (world-of n (64 * j + b))) ≡ bit (getD row j 0) b
+    here j b hj hb =
+        elim (cases-lt (64 * j + b) (2 ^ n)) [
+          | inl low ↦
+              ap (λ (x : Bool). x && set-of n row (world-of n (64 * j + b))) (lt-ltb (64 * j + b) (2 ^ n) low)
+              ∙ ap (in-words row) (number-of-world n (64 * j + b) low) ∙ in-row j b hb
+          | inr high ↦
+              ap (λ (x : Bool). x && set-of n row (world-of n (64 * j + b))) (le-ltb (64 * j + b) (2 ^ n) high)
+              ∙ sym (tidy (64 * j + b) high (omega arith)) ∙ in-row j b hb
+        ]
