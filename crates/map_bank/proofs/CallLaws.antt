@@ -1,6 +1,6 @@
 -- What each call of a map bank answers and leaves, by its rows.
 -- Assumes nothing.
-use mathlib.Core.Path.{_≡_, refl, sym, _∙_, ap, subst}
+use mathlib.Core.Path.{_≡_, refl, sym, _∙_, ap, subst, fun-ext}
 use mathlib.Core.Bool.{Bool, true, false, not, _&&_, cond}
 use mathlib.Core.List.{List, [], _∷_, _++_, map}
 use mathlib.Core.Logic.{inl, inr}
@@ -8,7 +8,7 @@ use Prim.Native.Nat.{ℕ, zero, suc, _+_, _-_, _*_, _≤_, _<_}
 use native.Mathlib.Omega.{arith}
 use lib.Dec.{eqb, leb, ltb}
 use lib.ListN.{length, getD, take, length-map}
-use Rattle.std.proofs.shelf.Tests.{cond-false, cond-true, cases-bool, lt-ltb, le-ltb, ltb-true, ltb-false, lt-leb, le-leb, false≢true}
+use Rattle.std.proofs.shelf.Tests.{cond-false, cond-true, cases-bool, lt-ltb, le-ltb, ltb-true, ltb-false, ne-eqb, lt-leb, le-leb, false≢true}
 use Rattle.std.proofs.shelf.Lists.{getD-map, take-map, map-push}
 use Rattle.std.specs.declared.option.Option.{Option}
 use Rattle.std.specs.declared.option.Option.the-variants.{Some, None}
@@ -17,12 +17,12 @@ use Rattle.std.specs.declared.result.Result.the-variants.{Ok, Err}
 use Rattle.worlds.specs.Worlds.{World, Literal, speaks-within}
 use Rattle.worlds.specs.Steps.{Outcome}
 use Rattle.worlds.specs.Sets.{Worlds, none-in, all-meet, successor, side, same-set}
-use Rattle.worlds.specs.Tickets.{Ticket, every, starts}
+use Rattle.worlds.specs.Tickets.{Ticket, every, starts, meets-some}
 use Rattle.bank.specs.declared.fault.BankFault.{BankFault}
 use Rattle.bank.specs.declared.fault.BankFault.the-variants.{Conditions, NoSet, Full, Wide, EmptySide, WrongStep}
 use Rattle.bank.specs.Meaning as bank
 use Rattle.bank.specs.Meaning.{Meaning, Call, founding}
-use Rattle.bank.specs.Calls.{unless, left-by, then-fault, refuse-if, with-some, set-at, place-of, is-held, step-at, outcomes-of, sensed-of, holds-answer, holds-fault, put-fault, next-set, next-fault, next-number, next-made, next-answer, next-leaves, side-set, split-fault, split-number, split-made, split-answer, split-leaves, shorten-fault, shortened}
+use Rattle.bank.specs.Calls.{unless, left-by, then-fault, refuse-if, with-some, set-at, place-of, is-held, step-at, outcomes-of, sensed-of, holds-answer, holds-fault, put-fault, next-set, next-fault, next-number, next-made, next-answer, next-leaves, side-set, split-fault, split-number, split-made, split-answer, split-leaves, shorten-fault, shortened, found-fault, founded}
 use Rattle.map_bank.specs.Canon.{row-of}
 use Rattle.map_bank.specs.Held.{rows-of}
 use Rattle.map_bank.specs.MapBanks.{meaning-with, map-nature, asked, made-by, side-by, row-kept, row-fault, row-answer, pushed-to, row-leaves}
@@ -174,7 +174,7 @@ module _ (t : Ticket) (rows : List (List ℕ)) (cap : ℕ) where
   pub next-goes : (set step : ℕ) (os : List Outcome) (row : List ℕ) → set < length rows → outcomes-of (step-at (t .steps) step) ≡ Some os → row ≡ row-of (t .conditions) (set-of (t .conditions) row) → set-of (t .conditions) row ≡ successor (t .conditions) os (set-of (t .conditions) (getD rows set [])) → (row-answer (meaning-with t rows cap) row ≡ next-answer map-nature set step (meaning-with t rows cap)) × (row-leaves (meaning-with t rows cap) row ≡ next-leaves map-nature set step (meaning-with t rows cap))
   next-goes set step os row h e canon is =
       let set-is : set-of n row ≡ next-set os set m = is ∙ ap (λ (s : Worlds n). successor n os s) (sym (set-there set h)) in
-      let kept-is : row ≡ map-nature .bank.keeps t rows (bank.action set step) =
+      let kept-is : row ≡ map-nature .keeps t rows (bank.action set step) =
       canon ∙ ap (row-of n) (is ∙ ap (λ (o : Option (List Outcome)). made-by n o (set-of n (getD rows set []))) (sym e)) in
       (ap told-by set-is ∙ ap (λ (o : Option (List Outcome)). next-told set step false o) (sym e) ∙ ap (λ (b : Bool). next-told set step b (outcomes step)) (sym (there set h)),
       ap (λ (s : Worlds n). put-by s row) set-is ∙ ap (put-by (next-set os set m)) kept-is
@@ -220,23 +220,23 @@ module _ (t : Ticket) (rows : List (List ℕ)) (cap : ℕ) where
     told-rest : side-told (side-set l so set m) (none-in n (side-set l so set m)) ≡ split-answer map-nature set step so m
     told-rest = ap (λ (o : Option Literal). split-told set step so false o) (sym e) ∙ ap (λ (b : Bool). split-told set step so b (sensed step)) (sym (there set h))
 
-    left-rest : side-left (side-set l so set m) (map-nature .bank.keeps t rows (bank.sensing set step so)) (none-in n (side-set l so set m)) ≡ split-leaves map-nature set step so m
+    left-rest : side-left (side-set l so set m) (map-nature .keeps t rows (bank.sensing set step so)) (none-in n (side-set l so set m)) ≡ split-leaves map-nature set step so m
     left-rest = ap (λ (o : Option Literal). split-left set step so false o) (sym e) ∙ ap (λ (b : Bool). split-left set step so b (sensed step)) (sym (there set h))
 
     pub split-empty : none-in (t .conditions) (set-of (t .conditions) row) ≡ true → (Err EmptySide ≡ split-answer map-nature set step so (meaning-with t rows cap)) × (meaning-with t rows cap ≡ split-leaves map-nature set step so (meaning-with t rows cap))
     split-empty none =
         let none-is : none-in n (side-set l so set m) ≡ true = ap (none-in n) (sym side-is) ∙ none in
         (ap (side-told (side-set l so set m)) (sym none-is) ∙ told-rest,
-        ap (side-left (side-set l so set m) (map-nature .bank.keeps t rows (bank.sensing set step so))) (sym none-is) ∙ left-rest)
+        ap (side-left (side-set l so set m) (map-nature .keeps t rows (bank.sensing set step so))) (sym none-is) ∙ left-rest)
 
     pub split-goes : none-in (t .conditions) (set-of (t .conditions) row) ≡ false → row ≡ row-of (t .conditions) (set-of (t .conditions) row) → (row-answer (meaning-with t rows cap) row ≡ split-answer map-nature set step so (meaning-with t rows cap)) × (row-leaves (meaning-with t rows cap) row ≡ split-leaves map-nature set step so (meaning-with t rows cap))
     split-goes some canon =
         let some-is : none-in n (side-set l so set m) ≡ false = ap (none-in n) (sym side-is) ∙ some in
-        let kept-is : row ≡ map-nature .bank.keeps t rows (bank.sensing set step so) =
+        let kept-is : row ≡ map-nature .keeps t rows (bank.sensing set step so) =
         canon ∙ ap (row-of n) (is ∙ ap (λ (o : Option Literal). side-by n o so (set-of n (getD rows set []))) (sym e)) in
         (ap told-by side-is ∙ ap (side-told (side-set l so set m)) (sym some-is) ∙ told-rest,
         ap (λ (s : Worlds n). put-by s row) side-is ∙ ap (put-by (side-set l so set m)) kept-is
-        ∙ ap (side-left (side-set l so set m) (map-nature .bank.keeps t rows (bank.sensing set step so))) (sym some-is) ∙ left-rest)
+        ∙ ap (side-left (side-set l so set m) (map-nature .keeps t rows (bank.sensing set step so))) (sym some-is) ∙ left-rest)
 
   -- ## Shorten
 
@@ -255,3 +255,23 @@ module _ (t : Ticket) (rows : List (List ℕ)) (cap : ℕ) where
   -- one more row
   pub one-more : (row : List ℕ) → meaning-with t (rows ++ row ∷ []) cap ≡ pushed-to (meaning-with t rows cap) row
   one-more row = ap (λ (held : List (Worlds n)). record { ticket = t; held = held; kept = rows ++ row ∷ []; capacity = cap }) (map-push (set-of n) rows row)
+
+-- ## Found
+
+-- the set of a row of the starting worlds
+pub start-set : (t : Ticket) (k : ℕ) (terms : List (List Literal)) (row : List ℕ) → k ≡ t .conditions → terms ≡ t .terms → ((w : World k) → set-of k row w ≡ meets-some k w terms) → set-of (t .conditions) row ≡ starts t
+start-set t k terms row ek et each =
+    fun-ext (λ w. subst (λ (j : ℕ). (v : World j) → set-of j row v ≡ meets-some j v terms) ek each w ∙ ap (meets-some (t .conditions) w) et)
+
+pub founded-is : (t : Ticket) (m : Meaning) (row : List ℕ) → set-of (t .conditions) row ≡ starts t → row ≡ row-of (t .conditions) (set-of (t .conditions) row) → meaning-with t (row ∷ []) (m .capacity) ≡ founded map-nature t m
+founded-is t m row is canon =
+    ap (λ (s : Worlds (t .conditions)). record { ticket = t; held = s ∷ []; kept = row ∷ []; capacity = m .capacity }) is
+    ∙ ap (λ (r : List ℕ). record { ticket = t; held = starts t ∷ []; kept = r ∷ []; capacity = m .capacity }) (canon ∙ ap (row-of (t .conditions)) is)
+
+pub found-done : (t : Ticket) (m : Meaning) → t .conditions ≤ 10 → 0 < m .capacity → (Ok tt ≡ unless (found-fault map-nature t m) tt) × (founded map-nature t m ≡ left-by (found-fault map-nature t m) m (founded map-nature t m))
+found-done t m few some =
+    let within : ltb 10 (t .conditions) ≡ false = le-ltb 10 (t .conditions) few in
+    let room : eqb (m .capacity) 0 ≡ false = ne-eqb (m .capacity) 0 (λ e. omega arith) in
+    let fault : Bool → Bool → Option BankFault = λ a b. then-fault (refuse-if a Conditions) (refuse-if b Full) in
+    let none : None ≡ found-fault map-nature t m = ap (fault false) (sym room) ∙ ap (λ (a : Bool). fault a (eqb (m .capacity) 0)) (sym within) in
+    (ap (λ (f : Option BankFault). unless f tt) none, ap (λ (f : Option BankFault). left-by f m (founded map-nature t m)) none)

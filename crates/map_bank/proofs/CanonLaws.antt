@@ -47,26 +47,32 @@ at-by (suc count) test (suc j) h b hb =
     let further : 64 + (64 * j + b) ≡ 64 * suc j + b = omega arith in
     (rest .0, rest .1 ∙ ap test further)
 
-pub row-is-of : (n : ℕ) (row : List ℕ) → n ≤ 10 → length row ≡ 16 → ((i : ℕ) → getD row i 0 < 2 ^ 64) → Tidy n row → row ≡ row-of n (set-of n row)
+-- whether the set of a row has world number k
+abbrev has-number : (n : ℕ) → List ℕ → ℕ → Bool
+has-number n row k = ltb k (2 ^ n) && set-of n row (world-of n k)
+
+in-row : (row : List ℕ) (j b : ℕ) → b < 64 → in-words row (64 * j + b) ≡ bit (getD row j 0) b
+in-row row j b hb =
+    let q : (64 * j + b) / 64 ≡ j = omega arith in
+    let r : (64 * j + b) % 64 ≡ b = omega arith in
+    ap (λ (x : ℕ). bit (getD row x 0) ((64 * j + b) % 64)) q ∙ ap (λ (x : ℕ). bit (getD row j 0) x) r
+
+bit-is : (n : ℕ) (row : List ℕ) → Tidy n row → (j b : ℕ) → j < 16 → b < 64 → has-number n row (64 * j + b) ≡ bit (getD row j 0) b
+bit-is n row tidy j b hj hb =
+    elim (cases-lt (64 * j + b) (2 ^ n)) [
+      | inl low ↦
+          ap (λ (x : Bool). x && set-of n row (world-of n (64 * j + b))) (lt-ltb (64 * j + b) (2 ^ n) low)
+          ∙ ap (in-words row) (number-of-world n (64 * j + b) low) ∙ in-row row j b hb
+      | inr high ↦
+          ap (λ (x : Bool). x && set-of n row (world-of n (64 * j + b))) (le-ltb (64 * j + b) (2 ^ n) high)
+          ∙ sym (tidy (64 * j + b) high (omega arith)) ∙ in-row row j b hb
+    ]
+
+-- a tidy row is the row of its set
+pub row-is-of : (n : ℕ) (row : List ℕ) → length row ≡ 16 → ((i : ℕ) → getD row i 0 < 2 ^ 64) → Tidy n row → row ≡ row-of n (set-of n row)
 unfolding row-of
-row-is-of n row few long fits tidy =
-    ext-getD 0 row (words-by 16 test) (long ∙ sym (length-by 16 test)) (λ j h. let hj : j < 16 = subst (λ (k : ℕ). j < k) long h in
-    same-bits (getD row j 0) (getD (words-by 16 test) j 0) (fits j) (at-by 16 test j hj 0 (omega arith) .0) (λ b hb. sym (at-by 16 test j hj b hb .1 ∙ here j b hj hb)))
-  where
-    abbrev test : ℕ → Bool
-    test = λ k. ltb k (2 ^ n) && set-of n row (world-of n k)
-    in-row : (j b : ℕ) → b < 64 → in-words row (64 * j + b) ≡ bit (getD row j 0) b
-    in-row j b hb =
-        let q : (64 * j + b) / 64 ≡ j = omega arith in
-        let r : (64 * j + b) % 64 ≡ b = omega arith in
-        ap (λ (x : ℕ). bit (getD row x 0) ((64 * j + b) % 64)) q ∙ ap (λ (x : ℕ). bit (getD row j 0) x) r
-    here : (j b : ℕ) → j < 16 → b < 64 → (ltb (64 * j + b) (2 ^ n) && set-of n row (world-of n (64 * j + b))) ≡ bit (getD row j 0) b
-    here j b hj hb =
-        elim (cases-lt (64 * j + b) (2 ^ n)) [
-          | inl low ↦
-              ap (λ (x : Bool). x && set-of n row (world-of n (64 * j + b))) (lt-ltb (64 * j + b) (2 ^ n) low)
-              ∙ ap (in-words row) (number-of-world n (64 * j + b) low) ∙ in-row j b hb
-          | inr high ↦
-              ap (λ (x : Bool). x && set-of n row (world-of n (64 * j + b))) (le-ltb (64 * j + b) (2 ^ n) high)
-              ∙ sym (tidy (64 * j + b) high (omega arith)) ∙ in-row j b hb
-        ]
+row-is-of n row long fits tidy =
+    let test : ℕ → Bool = has-number n row in
+    let same : (j : ℕ) → j < 16 → getD row j 0 ≡ getD (words-by 16 test) j 0 =
+    λ j hj. same-bits (getD row j 0) (getD (words-by 16 test) j 0) (fits j) (at-by 16 test j hj 0 (omega arith) .0) (λ b hb. sym (at-by 16 test j hj b hb .1 ∙ bit-is n row tidy j b hj hb)) in
+    ext-getD 0 row (words-by 16 test) (long ∙ sym (length-by 16 test)) (λ j h. same j (subst (λ (k : ℕ). j < k) long h))

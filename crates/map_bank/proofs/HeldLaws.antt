@@ -4,6 +4,7 @@ use mathlib.Core.Path.{_≡_, refl, sym, _∙_, ap, subst}
 use mathlib.Core.List.{List, [], _∷_, _++_, append-assoc}
 use Prim.Native.Nat.{ℕ, zero, suc, _+_, _-_, _*_, _≤_, _<_, min}
 use native.Mathlib.Nat.{zero-add, suc-add}
+use native.Mathlib.Numerals.{add-one}
 use native.Mathlib.Omega.{arith}
 use lib.ListN.{length, getD, take, drop, length-take, length-drop}
 use lib.Seq.{length-take-le, drop-drop, take-append-le, drop-append-le}
@@ -53,3 +54,8 @@ rows-longer (suc count) words row rest long h =
     ∙ ap (λ (l : List ℕ). l ∷ rows-of (suc count) (drop 16 (take 16 words ++ tail))) (take-at (take 16 words) tail 16 front)
     ∙ ap (λ (l : List ℕ). take 16 words ∷ rows-of (suc count) l) (drop-at (take 16 words) tail 16 front)
     ∙ ap (λ (rows : List (List ℕ)). take 16 words ∷ rows) (rows-longer count (drop 16 words) row rest long left)
+
+-- the rows after `write_row` behind them
+pub rows-written : (count : ℕ) (words row written : List ℕ) → length row ≡ 16 → 16 * count ≤ length words → written ≡ take (16 * count) words ++ (row ++ drop (16 * count + 16) words) → rows-of (count + 1) written ≡ rows-of count words ++ row ∷ []
+rows-written count words row written long room is =
+    ap (λ (k : ℕ). rows-of k written) (add-one count) ∙ ap (rows-of (suc count)) is ∙ rows-longer count words row (drop (16 * count + 16) words) long room

@@ -1,16 +1,15 @@
 ghost use mathlib.Core.Path.{_≡_};
 ghost use mathlib.Core.Bool.{false};
-ghost use mathlib.Core.List.{[], _∷_};
+ghost use mathlib.Core.List.{[]};
 ghost use Prim.Native.Nat.{_≤_};
 ghost use Rattle.std.specs.Of.Vec.{vec-len};
 ghost use Rattle.std.specs.Vec.{made};
 ghost use Rattle.worlds.specs.Sets.{none-in};
-ghost use Rattle.worlds.specs.Tickets.{starts};
+ghost use Rattle.bank.specs.Calls.{founded};
 ghost use Rattle.ticket.specs.Tickets.{ticket-of, blank};
-ghost use Rattle.map_bank.specs.Canon.{row-of};
 ghost use Rattle.map_bank.specs.Numbers.{set-of};
 ghost use Rattle.map_bank.specs.Rows.{Tidy};
-ghost use Rattle.map_bank.specs.MapBanks.{meaning-with, means-of, capacity-of, row-kept, row-answer, row-leaves, PushReady, pushed-to};
+ghost use Rattle.map_bank.specs.MapBanks.{meaning-with, means-of, map-nature, capacity-of, row-kept, row-answer, row-leaves, PushReady, pushed-to};
 use crate::map_bank::MapBank;
 use crate::places::find;
 use crate::places::row_at;
@@ -77,7 +76,7 @@ impl MapBank {
     // Empties the list, makes the ticket another's, and puts its starting worlds in as set 0.
     pub(crate) fn restart(&mut self, ticket: &Ticket)
         requires { ⌜ (ticket-of (now ticket) .conditions ≤ 10) × (16 ≤ vec-len (now self .words)) ⌝ }
-        ensures { λ _. ⌜ means-of (now (self .exit)) ≡ meaning-with (ticket-of (now (ticket .entry))) (row-of (ticket-of (now (ticket .entry)) .conditions) (starts (ticket-of (now (ticket .entry)))) ∷ []) (capacity-of (vec-len (now (self .entry) .words))) ⌝ }
+        ensures { λ _. ⌜ means-of (now (self .exit)) ≡ founded map-nature (ticket-of (now (ticket .entry))) (means-of (now (self .entry))) ⌝ }
     {
         let row = start_row(ticket.terms(), ticket.conditions());
         self.count = 0;
