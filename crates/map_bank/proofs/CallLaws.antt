@@ -240,15 +240,15 @@ module _ (t : Ticket) (rows : List (List ℕ)) (cap : ℕ) where
 
   -- ## Shorten
 
-  pub shorten-refused : (count : ℕ) → length rows < count → (Err NoSet ≡ unless (shorten-fault count (meaning-with t rows cap)) tt) × (meaning-with t rows cap ≡ left-by (shorten-fault count (meaning-with t rows cap)) (meaning-with t rows cap) (shortened count (meaning-with t rows cap)))
+  pub shorten-refused : (count : ℕ) → length rows < count → (Err NoSet ≡ unless (shorten-fault count (meaning-with t rows cap)) (tt {0})) × (meaning-with t rows cap ≡ left-by (shorten-fault count (meaning-with t rows cap)) (meaning-with t rows cap) (shortened count (meaning-with t rows cap)))
   shorten-refused count h =
       let over : ltb (length (m .held)) count ≡ true = lt-ltb (length (m .held)) count (subst (λ (k : ℕ). k < count) (sym long) h) in
-      (ap (λ (b : Bool). unless (refuse-if b NoSet) tt) (sym over), ap (λ (b : Bool). left-by (refuse-if b NoSet) m (shortened count m)) (sym over))
+      (ap (λ (b : Bool). unless (refuse-if b NoSet) (tt {0})) (sym over), ap (λ (b : Bool). left-by (refuse-if b NoSet) m (shortened count m)) (sym over))
 
-  pub shorten-done : (count : ℕ) → count ≤ length rows → (Ok tt ≡ unless (shorten-fault count (meaning-with t rows cap)) tt) × (meaning-with t (take count rows) cap ≡ left-by (shorten-fault count (meaning-with t rows cap)) (meaning-with t rows cap) (shortened count (meaning-with t rows cap)))
+  pub shorten-done : (count : ℕ) → count ≤ length rows → (Ok (tt {0}) ≡ unless (shorten-fault count (meaning-with t rows cap)) (tt {0})) × (meaning-with t (take count rows) cap ≡ left-by (shorten-fault count (meaning-with t rows cap)) (meaning-with t rows cap) (shortened count (meaning-with t rows cap)))
   shorten-done count h =
       let fine : ltb (length (m .held)) count ≡ false = le-ltb (length (m .held)) count (subst (λ (k : ℕ). count ≤ k) (sym long) h) in
-      (ap (λ (b : Bool). unless (refuse-if b NoSet) tt) (sym fine),
+      (ap (λ (b : Bool). unless (refuse-if b NoSet) (tt {0})) (sym fine),
       ap (λ (held : List (Worlds n)). record { ticket = t; held = held; kept = take count rows; capacity = cap }) (sym (take-map (set-of n) count rows))
       ∙ ap (λ (b : Bool). left-by (refuse-if b NoSet) m (shortened count m)) (sym fine))
 
@@ -268,10 +268,10 @@ founded-is t m row is canon =
     ap (λ (s : Worlds (t .conditions)). record { ticket = t; held = s ∷ []; kept = row ∷ []; capacity = m .capacity }) is
     ∙ ap (λ (r : List ℕ). record { ticket = t; held = starts t ∷ []; kept = r ∷ []; capacity = m .capacity }) (canon ∙ ap (row-of (t .conditions)) is)
 
-pub found-done : (t : Ticket) (m : Meaning) → t .conditions ≤ 10 → 0 < m .capacity → (Ok tt ≡ unless (found-fault map-nature t m) tt) × (founded map-nature t m ≡ left-by (found-fault map-nature t m) m (founded map-nature t m))
+pub found-done : (t : Ticket) (m : Meaning) → t .conditions ≤ 10 → 0 < m .capacity → (Ok (tt {0}) ≡ unless (found-fault map-nature t m) (tt {0})) × (founded map-nature t m ≡ left-by (found-fault map-nature t m) m (founded map-nature t m))
 found-done t m few some =
     let within : ltb 10 (t .conditions) ≡ false = le-ltb 10 (t .conditions) few in
     let room : eqb (m .capacity) 0 ≡ false = ne-eqb (m .capacity) 0 (λ e. omega arith) in
     let fault : Bool → Bool → Option BankFault = λ a b. then-fault (refuse-if a Conditions) (refuse-if b Full) in
     let none : None ≡ found-fault map-nature t m = ap (fault false) (sym room) ∙ ap (λ (a : Bool). fault a (eqb (m .capacity) 0)) (sym within) in
-    (ap (λ (f : Option BankFault). unless f tt) none, ap (λ (f : Option BankFault). left-by f m (founded map-nature t m)) none)
+    (ap (λ (f : Option BankFault). unless f (tt {0})) none, ap (λ (f : Option BankFault). left-by f m (founded map-nature t m)) none)

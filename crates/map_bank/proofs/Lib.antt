@@ -1,3 +1,4 @@
+pub mod Asked
 pub mod BitLaws
 pub mod CallLaws
 pub mod CanonLaws

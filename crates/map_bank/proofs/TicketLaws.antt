@@ -9,6 +9,8 @@ use native.Mathlib.Omega.{arith}
 use lib.Dec.{eqb, leb, ltb}
 use lib.IntN.{pos, negsuc}
 use lib.ListN.{length}
+use mir.Syntax.{w16}
+use mir.Val.{SFits}
 use Rattle.std.proofs.shelf.Tests.{and-parts, and-from, ltb-true, leb-true, le-leb, or-left, cases-bool, cond-true, cond-false, not-true, not-false, not-from-true}
 use Rattle.std.specs.declared.option.Option.{Option}
 use Rattle.std.specs.declared.option.Option.the-variants.{Some, None}
@@ -134,3 +136,8 @@ starts-some t h =
     let parts = terms-lawful-parts t h in
     let met = meets-first (t .conditions) (t .terms) (parts .0) (parts .1) in
     not-from-true _ (some-world-from (t .conditions) (starts t) (met .0) (met .1))
+
+-- a literal of few conditions is a small number
+pub literal-fits : (n : ℕ) (l : Literal) → n ≤ 10 → speaks-within n l ≡ true → SFits w16 l
+literal-fits n (pos p) few h = let low = leb-true p n (and-parts (ltb 0 p) (leb p n) h .1) in record { sfits = omega arith }
+literal-fits n (negsuc m) few h = let low = leb-true (suc m) n h in record { sfits = omega arith }
