@@ -1,6 +1,6 @@
 -- What the row that Next or Split makes keeps, by the bank that it is made of.
 -- Assumes nothing.
-use mathlib.Core.Path.{_≡_, refl, sym, _∙_, ap, subst, fun-ext}
+use mathlib.Core.Path.{_≡_, sym, _∙_, ap, subst, fun-ext}
 use mathlib.Core.Bool.{Bool, true, false}
 use mathlib.Core.List.{List, [], map}
 use Prim.Native.Nat.{ℕ, _≤_, _<_}
@@ -9,10 +9,10 @@ use mir.Syntax.{w16}
 use mir.Val.{SFits, toZ, ofZ}
 use Rattle.std.proofs.shelf.Signed.{toZ-ofZ}
 use Rattle.std.specs.Of.Vec.{vec-len}
-use Rattle.std.specs.declared.option.Option.the-variants.{Some, None}
+use Rattle.std.specs.declared.option.Option.the-variants.{Some}
 use Rattle.worlds.specs.Worlds.{World, Literal, speaks-within}
 use Rattle.worlds.specs.Steps.{Outcome}
-use Rattle.worlds.specs.Sets.{Worlds, none-in, successor, side}
+use Rattle.worlds.specs.Sets.{none-in, successor, side}
 use Rattle.worlds.specs.Tickets.{every, lawful-outcome}
 use Rattle.ticket.specs.Tickets.{ticket-of}
 use Rattle.bank.specs.Calls.{step-at, outcomes-of, sensed-of}

@@ -2,13 +2,13 @@
 -- Assumes nothing.
 use mathlib.Core.Path.{_≡_, refl, sym, _∙_, ap, subst, fun-ext}
 use mathlib.Core.Bool.{Bool, true, false, not, _&&_, cond}
-use mathlib.Core.List.{List, [], _∷_, _++_, map}
+use mathlib.Core.List.{List, [], _∷_, _++_}
 use mathlib.Core.Logic.{inl, inr}
-use Prim.Native.Nat.{ℕ, zero, suc, _+_, _-_, _*_, _≤_, _<_}
+use Prim.Native.Nat.{ℕ, suc, _+_, _≤_, _<_}
 use native.Mathlib.Omega.{arith}
 use lib.Dec.{eqb, leb, ltb}
 use lib.ListN.{length, getD, take, length-map}
-use Rattle.std.proofs.shelf.Tests.{cond-false, cond-true, cases-bool, lt-ltb, le-ltb, ltb-true, ltb-false, ne-eqb, lt-leb, le-leb, false≢true}
+use Rattle.std.proofs.shelf.Tests.{cond-false, cond-true, cases-bool, lt-ltb, le-ltb, ltb-true, ltb-false, ne-eqb, lt-leb, le-leb}
 use Rattle.std.proofs.shelf.Lists.{getD-map, take-map, map-push}
 use Rattle.std.specs.declared.option.Option.{Option}
 use Rattle.std.specs.declared.option.Option.the-variants.{Some, None}
@@ -19,13 +19,12 @@ use Rattle.worlds.specs.Steps.{Outcome}
 use Rattle.worlds.specs.Sets.{Worlds, none-in, all-meet, successor, side, same-set}
 use Rattle.worlds.specs.Tickets.{Ticket, every, starts, meets-some}
 use Rattle.bank.specs.declared.fault.BankFault.{BankFault}
-use Rattle.bank.specs.declared.fault.BankFault.the-variants.{Conditions, NoSet, Full, Wide, EmptySide, WrongStep}
+use Rattle.bank.specs.declared.fault.BankFault.the-variants.{Conditions, NoSet, Full, EmptySide, WrongStep}
 use Rattle.bank.specs.Meaning as bank
-use Rattle.bank.specs.Meaning.{Meaning, Call, founding}
-use Rattle.bank.specs.Calls.{unless, left-by, then-fault, refuse-if, with-some, set-at, place-of, is-held, step-at, outcomes-of, sensed-of, holds-answer, holds-fault, put-fault, next-set, next-fault, next-number, next-made, next-answer, next-leaves, side-set, split-fault, split-number, split-made, split-answer, split-leaves, shorten-fault, shortened, found-fault, founded}
+use Rattle.bank.specs.Meaning.{Meaning}
+use Rattle.bank.specs.Calls.{unless, left-by, then-fault, refuse-if, with-some, set-at, place-of, is-held, step-at, outcomes-of, sensed-of, holds-answer, put-fault, next-set, next-number, next-made, next-answer, next-leaves, side-set, split-number, split-made, split-answer, split-leaves, shorten-fault, shortened, found-fault, founded}
 use Rattle.map_bank.specs.Canon.{row-of}
-use Rattle.map_bank.specs.Held.{rows-of}
-use Rattle.map_bank.specs.MapBanks.{meaning-with, map-nature, asked, made-by, side-by, row-kept, row-fault, row-answer, pushed-to, row-leaves}
+use Rattle.map_bank.specs.MapBanks.{meaning-with, map-nature, made-by, side-by, row-kept, row-answer, pushed-to, row-leaves}
 use Rattle.map_bank.specs.Numbers.{set-of}
 
 -- ## The row of a number

@@ -1,23 +1,26 @@
--- A tidy row is the one row of its set.
+-- A tidy row is the one row of its set, so that rows are the same exactly where their sets are.
 -- Assumes nothing.
-use mathlib.Core.Path.{_≡_, refl, sym, _∙_, ap, subst}
-use mathlib.Core.Bool.{Bool, true, false, _&&_, cond}
-use mathlib.Core.List.{List, [], _∷_}
+use mathlib.Core.Path.{_≡_, refl, sym, _∙_, ap, subst, fun-ext}
+use mathlib.Core.Bool.{Bool, true, false, not, _&&_}
+use mathlib.Core.List.{List}
 use mathlib.Core.Logic.{inl, inr}
-use Prim.Native.Nat.{ℕ, zero, suc, _+_, _-_, _*_, _/_, _%_, _^_, _≤_, _<_}
+use Prim.Native.Nat.{ℕ, zero, suc, _+_, _*_, _/_, _%_, _^_, _<_}
 use native.Mathlib.Nat.{pow-suc, zero-add}
 use native.Mathlib.Omega.{arith}
 use lib.Dec.{ltb}
 use lib.ListN.{length, getD}
 use Rattle.std.proofs.shelf.Lists.{ext-getD}
-use Rattle.std.proofs.shelf.Tests.{cases-lt, lt-ltb, le-ltb}
-use Rattle.worlds.specs.Sets.{Worlds}
+use Rattle.std.proofs.shelf.Tests.{cases-lt, lt-ltb, le-ltb, not-true, not-false, both-ways}
+use Rattle.worlds.specs.Worlds.{some-world}
+use Rattle.worlds.specs.Sets.{Worlds, same-set, same-value}
+use Rattle.worlds.proofs.Compatible.{some-world-from, cannot-pass}
 use Rattle.map_bank.specs.Bits.{bit}
 use Rattle.map_bank.specs.Canon.{word-by, words-by, row-of}
-use Rattle.map_bank.specs.Numbers.{number, world-of, in-words, set-of}
+use Rattle.map_bank.specs.Numbers.{world-of, in-words, set-of}
 use Rattle.map_bank.specs.Rows.{Tidy}
 use Rattle.map_bank.proofs.BitLaws.{bit-lowest, bit-above, same-bits}
 use Rattle.map_bank.proofs.NumberLaws.{number-of-world, lowest-digit, digits-above, digit-below}
+use Rattle.map_bank.proofs.TruthTable.{same-value-is}
 
 bit-by : (m : ℕ) (test : ℕ → Bool) (i : ℕ) → i < m → bit (word-by m test) i ≡ test i
 unfolding word-by
@@ -76,3 +79,17 @@ row-is-of n row long fits tidy =
     let same : (j : ℕ) → j < 16 → getD row j 0 ≡ getD (words-by 16 test) j 0 =
     λ j hj. same-bits (getD row j 0) (getD (words-by 16 test) j 0) (fits j) (at-by 16 test j hj 0 (omega arith) .0) (λ b hb. sym (at-by 16 test j hj b hb .1 ∙ bit-is n row tidy j b hj hb)) in
     ext-getD 0 row (words-by 16 test) (long ∙ sym (length-by 16 test)) (λ j h. same j (subst (λ (k : ℕ). j < k) long h))
+
+-- ## Rows of one set
+
+-- sets that the test takes for the same are equal
+pub same-set-is : (n : ℕ) (s t : Worlds n) → same-set n s t ≡ true → s ≡ t
+same-set-is n s t same =
+    let none : some-world n (λ w. not (same-value (s w) (t w))) ≡ false = not-true _ same in
+    fun-ext (λ w. same-value-is (s w) (t w)
+    (not-false _ (cannot-pass (not (same-value (s w) (t w))) (λ other. both-ways _ none (some-world-from n (λ v. not (same-value (s v) (t v))) w other)))))
+
+-- tidy rows of one set are the same
+pub rows-same : (n : ℕ) (a b : List ℕ) → length a ≡ 16 → length b ≡ 16 → ((i : ℕ) → getD a i 0 < 2 ^ 64) → ((i : ℕ) → getD b i 0 < 2 ^ 64) → Tidy n a → Tidy n b → same-set n (set-of n a) (set-of n b) ≡ true → a ≡ b
+rows-same n a b long-a long-b fits-a fits-b tidy-a tidy-b same =
+    row-is-of n a long-a fits-a tidy-a ∙ ap (row-of n) (same-set-is n (set-of n a) (set-of n b) same) ∙ sym (row-is-of n b long-b fits-b tidy-b)

@@ -5,7 +5,6 @@ pub mod CanonLaws
 pub mod HeldLaws
 pub mod NumberLaws
 pub mod PlaceLaws
-pub mod RowLaws
 pub mod StepLaws
 pub mod TicketLaws
 pub mod TruthTable

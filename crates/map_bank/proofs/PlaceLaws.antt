@@ -1,26 +1,25 @@
 -- Where a row's set stands among the sets of rows, and which lists of sets stay pairwise different.
--- Assumes nothing but rows-same.
+-- Assumes nothing.
 use mathlib.Core.Path.{_≡_, refl, sym, _∙_, ap, subst}
-use mathlib.Core.Bool.{Bool, true, false, not, _&&_, cond}
+use mathlib.Core.Bool.{Bool, true, false, not, _&&_}
 use mathlib.Core.List.{List, [], _∷_, _++_, map}
 use mathlib.Core.Logic.{inl, inr}
 use Prim.Native.Nat.{ℕ, zero, suc, _+_, _-_, _*_, _^_, _≤_, _<_}
 use native.Mathlib.Omega.{arith}
-use lib.Dec.{ltb}
 use lib.ListN.{length, getD, take, drop, length-map, length-drop, length-take}
-use Rattle.std.proofs.shelf.Tests.{cond-false, cond-true, both-ways, and-parts, and-from, not-from-false, not-true, cases-lt, cases-bool, false≢true, cases-eq}
-use Rattle.std.proofs.shelf.Lists.{at-drop-more, at-drop-all, getD-map, getD-take, getD-drop, getD-past, length-take-le, getD-append-left, getD-push, length-push}
+use Rattle.std.proofs.shelf.Tests.{cond-false, cond-true, both-ways, and-parts, and-from, not-from-false, not-true, cases-lt}
+use Rattle.std.proofs.shelf.Lists.{at-drop-more, at-drop-all, getD-map, getD-take, getD-drop, getD-past, length-take-le}
 use Rattle.worlds.specs.Worlds.{World, some-world}
 use Rattle.worlds.specs.Sets.{Worlds, none-in, same-set, same-value}
-use Rattle.worlds.proofs.Compatible.{some-world-from, the-world, cannot-pass}
+use Rattle.worlds.proofs.Compatible.{the-world, cannot-pass}
 use Rattle.bank.specs.Meaning.{all-different, differs-from}
-use Rattle.bank.specs.Calls.{place-of, is-held, set-at}
+use Rattle.bank.specs.Calls.{place-of, set-at}
 use Rattle.map_bank.specs.Held.{rows-of, AllTidy}
 use Rattle.map_bank.specs.Numbers.{set-of, in-words}
 use Rattle.map_bank.specs.Rows.{Tidy}
 use Rattle.map_bank.proofs.BitLaws.{bit-zero}
+use Rattle.map_bank.proofs.CanonLaws.{rows-same}
 use Rattle.map_bank.proofs.HeldLaws.{length-rows, row-is}
-use Rattle.map_bank.proofs.RowLaws.{rows-same}
 
 -- ## Sets
 
@@ -89,7 +88,7 @@ module _ (count : ℕ) (words row : List ℕ) (room : 16 * count ≤ length word
       let space : 16 * i + 16 ≤ length words = omega arith in
       let left : 16 ≤ length (drop (16 * i) words) = subst (λ (k : ℕ). 16 ≤ k) (sym (length-drop (16 * i) words)) (omega arith) in
       let same-no : same-set n (set-of n (getD (rows-of count words) i [])) (set-of n row) ≡ false =
-      cannot-pass _ (λ same. other (is ∙ rows-same n (take 16 (drop (16 * i) words)) row few (length-take-le 16 (drop (16 * i) words) left) long (row-fits words fits (16 * i)) row-fit
+      cannot-pass _ (λ same. other (is ∙ rows-same n (take 16 (drop (16 * i) words)) row (length-take-le 16 (drop (16 * i) words) left) long (row-fits words fits (16 * i)) row-fit
       (subst (λ (r : List ℕ). Tidy n r) lies (tidy i)) tidy-row (subst (λ (r : List ℕ). same-set n (set-of n r) (set-of n row) ≡ true) lies same))) in
       let step = place-step n (rows-of count words) (set-of n row) i (subst (λ (k : ℕ). i < k) (sym (length-rows count words)) h) same-no in
       before n few tidy tidy-row ∙ ap (λ (k : ℕ). i + k) step ∙ (omega arith)

@@ -1,18 +1,15 @@
 -- The step of a number, and lists of literals within conditions.
 -- Assumes nothing.
 use mathlib.Core.Path.{_≡_, refl, sym, _∙_, ap, subst}
-use mathlib.Core.Bool.{Bool, true, false, not, _&&_, cond}
+use mathlib.Core.Bool.{Bool, true, false, _&&_}
 use mathlib.Core.List.{List, [], _∷_, map}
 use Prim.Native.Nat.{ℕ, zero, suc, _+_, _-_, _≤_, _<_}
 use native.Mathlib.Omega.{arith}
-use lib.Dec.{eqb, leb, ltb}
-use lib.IntN.{pos, negsuc, natAbs}
+use lib.Dec.{eqb}
 use lib.ListN.{length, getD, drop, length-map}
-use Rattle.std.proofs.shelf.Tests.{cond-false, ne-eqb, and-parts, and-from, le-leb, leb-true}
+use Rattle.std.proofs.shelf.Tests.{cond-false, ne-eqb}
 use Rattle.std.proofs.shelf.Lists.{at-drop-more, at-drop-all, getD-map}
-use Rattle.std.specs.declared.option.Option.{Option}
 use Rattle.std.specs.declared.option.Option.the-variants.{Some, None}
-use Rattle.worlds.specs.Worlds.{Literal, speaks-within}
 use Rattle.worlds.specs.Steps.{Step}
 use Rattle.worlds.specs.Tickets.{every}
 use Rattle.worlds.specs.Meaning.{step-of}

@@ -1,7 +1,7 @@
 -- What a lawful ticket says of its steps and terms, and which sets are not empty.
 -- Assumes nothing.
-use mathlib.Core.Path.{_≡_, refl, sym, _∙_, ap, subst}
-use mathlib.Core.Bool.{Bool, true, false, not, _&&_, _||_, cond}
+use mathlib.Core.Path.{_≡_, refl, sym, _∙_, subst}
+use mathlib.Core.Bool.{Bool, true, false, _&&_, cond}
 use mathlib.Core.List.{List, [], _∷_}
 use mathlib.Core.Logic.{inl, inr}
 use Prim.Native.Nat.{ℕ, zero, suc, _-_, _≤_, _<_}
@@ -11,10 +11,10 @@ use lib.IntN.{pos, negsuc}
 use lib.ListN.{length}
 use mir.Syntax.{w16}
 use mir.Val.{SFits}
-use Rattle.std.proofs.shelf.Tests.{and-parts, and-from, ltb-true, leb-true, le-leb, or-left, cases-bool, cond-true, cond-false, not-true, not-false, not-from-true}
+use Rattle.std.proofs.shelf.Tests.{and-parts, and-from, ltb-true, leb-true, le-leb, or-left, cases-bool, not-false, not-from-true}
 use Rattle.std.specs.declared.option.Option.{Option}
 use Rattle.std.specs.declared.option.Option.the-variants.{Some, None}
-use Rattle.worlds.specs.Worlds.{World, Literal, meets, some-world, speaks-within, consistent, compatible}
+use Rattle.worlds.specs.Worlds.{World, Literal, meets, speaks-within, consistent, compatible}
 use Rattle.worlds.specs.Steps.{Outcome, Step, action, sensing, after}
 use Rattle.worlds.specs.Sets.{Worlds, none-in, same-value, same-world, may-give, successor}
 use Rattle.worlds.specs.Tickets.{Ticket, every, lawful, lawful-list, lawful-outcome, lawful-step, starts, meets-some}

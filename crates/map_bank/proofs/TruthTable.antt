@@ -14,7 +14,7 @@ use Rattle.map_bank.specs.Bits.{bit}
 use Rattle.map_bank.specs.TruthTable.{word-right, words-right}
 
 -- truth values that the test takes for the same are equal
-same-value-is : (a b : Bool) → same-value a b ≡ true → a ≡ b
+pub same-value-is : (a b : Bool) → same-value a b ≡ true → a ≡ b
 same-value-is true b h = sym h
 same-value-is false true h = absurd (false≢true h)
 same-value-is false false h = refl

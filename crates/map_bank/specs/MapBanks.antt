@@ -1,6 +1,6 @@
 -- What a map bank means, and its nature.
 use mathlib.Core.Path.{_≡_}
-use mathlib.Core.Bool.{Bool, true, false, not, _&&_, cond}
+use mathlib.Core.Bool.{Bool, false, not, _&&_, cond}
 use mathlib.Core.List.{List, [], _∷_, _++_, map}
 use Prim.Native.Nat.{ℕ, _+_, _*_, _/_, _≤_, _<_, min}
 use lib.Dec.{leb, ltb}
@@ -8,7 +8,7 @@ use lib.ListN.{length, getD}
 use Rattle.std.specs.Of.Vec.{vec-items, vec-len}
 use Rattle.std.specs.declared.option.Option.{Option}
 use Rattle.std.specs.declared.option.Option.the-variants.{Some, None}
-use Rattle.worlds.specs.Worlds.{World, Literal}
+use Rattle.worlds.specs.Worlds.{Literal}
 use Rattle.worlds.specs.Steps.{Outcome}
 use Rattle.worlds.specs.Sets.{Worlds, none-in, successor, side}
 use Rattle.worlds.specs.Tickets.{Ticket, starts}

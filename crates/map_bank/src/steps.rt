@@ -1,9 +1,7 @@
 // What a bank asks of a ticket's steps and of lists of literals.
 ghost use mathlib.Core.Path.{_≡_};
-ghost use mathlib.Core.List.{map};
 ghost use Rattle.worlds.specs.Worlds.{speaks-within};
 ghost use Rattle.worlds.specs.Tickets.{every};
-ghost use Rattle.worlds.specs.Meaning.{outcome-of};
 ghost use Rattle.ticket.specs.Tickets.{ticket-of};
 ghost use Rattle.bank.specs.Calls.{step-at, outcomes-of, sensed-of};
 ghost use Rattle.map_bank.specs.StepParts.{step-in, outcomes-in};

@@ -1,4 +1,3 @@
-use native.Mathlib.Omega.{arith}
 use Rattle.map_bank.proofs.StepLaws.{step-read, step-none}
 use Rattle.map_bank.proofs.steps.step_at.Needs as need
 

@@ -1,6 +1,6 @@
 use mathlib.Core.Path.{_≡_, sym, ap, subst, _∙_}
 use mathlib.Core.Bool.{true}
-use mathlib.Core.List.{List, [], _∷_, _++_, map}
+use mathlib.Core.List.{List, _++_, map}
 use Prim.Native.Nat.{ℕ, _+_, _*_, _≤_}
 use native.Mathlib.Omega.{arith}
 use lib.ListN.{length, take, drop, length-map}
@@ -10,7 +10,7 @@ use Rattle.worlds.specs.Sets.{Worlds}
 use Rattle.ticket.specs.Tickets.{ticket-of}
 use Rattle.bank.specs.Meaning.{all-different}
 use Rattle.bank.specs.Calls.{place-of}
-use Rattle.map_bank.specs.Held.{rows-of, AllTidy}
+use Rattle.map_bank.specs.Held.{AllTidy}
 use Rattle.map_bank.specs.MapBanks.{rows-in, meaning-with, capacity-of}
 use Rattle.map_bank.specs.Numbers.{set-of}
 use Rattle.map_bank.proofs.HeldLaws.{length-rows, rows-written}

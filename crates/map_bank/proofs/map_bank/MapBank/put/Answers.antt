@@ -1,15 +1,15 @@
 use mathlib.Core.Path.{_≡_, sym, ap, subst, _∙_}
 use mathlib.Core.List.{List, [], map}
-use Prim.Native.Nat.{ℕ, _+_, _*_, _≤_, _<_}
+use Prim.Native.Nat.{ℕ, _≤_, _<_}
 use native.Mathlib.Omega.{arith}
-use lib.ListN.{length, getD}
+use lib.ListN.{getD}
 use Rattle.std.specs.Of.Vec.{vec-items, vec-len}
 use Rattle.std.specs.declared.result.Result.the-variants.{Ok}
 use Rattle.ticket.specs.Tickets.{ticket-of}
 use Rattle.bank.specs.Calls.{place-of}
 use Rattle.map_bank.specs.declared.map_bank.MapBank.{MapBank}
 use Rattle.map_bank.specs.Held.{rows-of}
-use Rattle.map_bank.specs.MapBanks.{rows-in, meaning-with, capacity-of}
+use Rattle.map_bank.specs.MapBanks.{rows-in, capacity-of}
 use Rattle.map_bank.specs.Numbers.{set-of}
 use Rattle.map_bank.specs.Rows.{Tidy}
 use Rattle.map_bank.proofs.HeldLaws.{length-rows}
