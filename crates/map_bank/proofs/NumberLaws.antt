@@ -19,11 +19,11 @@ use Rattle.map_bank.proofs.BitLaws.{bit-lowest, bit-above, bit-zero}
 -- ## One condition and the rest
 
 -- the lowest digit of a world's number is its first value, and the digits above are the number of the rest
-lowest-digit : (b : Bool) (k : ℕ) → eqb ((cond b 1 0 + 2 * k) % 2) 1 ≡ b
+pub lowest-digit : (b : Bool) (k : ℕ) → eqb ((cond b 1 0 + 2 * k) % 2) 1 ≡ b
 lowest-digit true k = let one : (1 + 2 * k) % 2 ≡ 1 = omega arith in ap (λ (x : ℕ). eqb x 1) one
 lowest-digit false k = let none : (0 + 2 * k) % 2 ≡ 0 = omega arith in ap (λ (x : ℕ). eqb x 1) none
 
-digits-above : (b : Bool) (k : ℕ) → (cond b 1 0 + 2 * k) / 2 ≡ k
+pub digits-above : (b : Bool) (k : ℕ) → (cond b 1 0 + 2 * k) / 2 ≡ k
 digits-above true k = omega arith
 digits-above false k = omega arith
 
@@ -31,7 +31,7 @@ digits-above false k = omega arith
 digits-joined : (k : ℕ) → cond (eqb (k % 2) 1) 1 0 + 2 * (k / 2) ≡ k
 digits-joined k = grind (arith, tells)
 
-digit-below : (b : Bool) (k m : ℕ) → k < m → cond b 1 0 + 2 * k < m * 2
+pub digit-below : (b : Bool) (k m : ℕ) → k < m → cond b 1 0 + 2 * k < m * 2
 digit-below true k m h = omega arith
 digit-below false k m h = omega arith
 
