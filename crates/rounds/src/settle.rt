@@ -1,11 +1,11 @@
 // Settling a graph, round by round.
 ghost use mathlib.Core.Path.{_≡_};
 ghost use Prim.Native.Nat.{ℕ, _<_};
-ghost use lib.ListN.{length, set, drop};
+ghost use lib.ListN.{length, set};
 ghost use Rattle.std.specs.declared.option.Option.the-variants.{None, Some};
 ghost use Rattle.rounds.specs.Graph.{graph-of, nodes-in};
 ghost use Rattle.rounds.specs.Rounds.{total-at};
-ghost use Rattle.rounds.specs.Settled.{Settled};
+ghost use Rattle.rounds.specs.Settled.{Settled, Settles};
 use crate::graph::Mark;
 use crate::graph::Move;
 use crate::graph::Tentative;
@@ -69,9 +69,7 @@ pub fn settle<T: Tally>(
     totals: &mut [Option<T::Total>],
     marks: &mut [Mark],
 ) -> usize
-    ensures settled { λ r. ⌜ Settled (T·Tally .le) (T·Tally .nothing) (T·Tally .add) (graph-of (now (steps .entry)) (now (moves .entry)) (now (ends .entry)) (nodes-in (now (moves .entry)) (now (ends .entry)) (now (totals .entry)) (now (marks .entry)))) (now (totals .exit)) (now (marks .exit)) r ⌝ }
-    ensures totals_beyond { λ _. ⌜ drop (nodes-in (now (moves .entry)) (now (ends .entry)) (now (totals .entry)) (now (marks .entry))) (now (totals .exit)) ≡ drop (nodes-in (now (moves .entry)) (now (ends .entry)) (now (totals .entry)) (now (marks .entry))) (now (totals .entry)) ⌝ }
-    ensures marks_beyond { λ _. ⌜ drop (nodes-in (now (moves .entry)) (now (ends .entry)) (now (totals .entry)) (now (marks .entry))) (now (marks .exit)) ≡ drop (nodes-in (now (moves .entry)) (now (ends .entry)) (now (totals .entry)) (now (marks .entry))) (now (marks .entry)) ⌝ }
+    ensures { λ r. ⌜ Settles (T·Tally .le) (T·Tally .nothing) (T·Tally .add) (graph-of (now (steps .entry)) (now (moves .entry)) (now (ends .entry)) (nodes-in (now (moves .entry)) (now (ends .entry)) (now (totals .entry)) (now (marks .entry)))) (now (totals .entry)) (now (marks .entry)) (now (totals .exit)) (now (marks .exit)) r ⌝ }
 {
     let size = moves
         .len()
