@@ -1,11 +1,11 @@
 -- The cut: each procedure from an unsettled node passes some unsettled node whose tentative total is at most its own.
 -- Assumes nothing.
-use mathlib.Core.Path.{_≡_, refl, sym, _∙_, ap, subst}
-use mathlib.Core.Bool.{Bool, true, false, cond}
-use mathlib.Core.Logic.{_⊎_, inl, inr}
+use mathlib.Core.Path.{_≡_, sym, _∙_, ap, subst}
+use mathlib.Core.Bool.{Bool, true, cond}
+use mathlib.Core.Logic.{inl, inr}
 use mathlib.Core.List.{List}
-use Prim.Native.Nat.{ℕ, zero, suc, _<_}
-use lib.ListN.{length, getD}
+use Prim.Native.Nat.{ℕ, _<_}
+use lib.ListN.{length}
 use Rattle.std.specs.declared.option.Option.{Option}
 use Rattle.std.specs.declared.option.Option.the-variants.{Some, None}
 use Rattle.std.proofs.shelf.Tests.{cases-bool, cond-true, cond-false}
@@ -13,17 +13,13 @@ use Rattle.worlds.specs.Steps.{Step}
 use Rattle.worlds.specs.Tickets.{step-at}
 use Rattle.tally.specs.Laws.{Laws}
 use Rattle.theory.specs.Procedures.{larger}
-use Rattle.theory.specs.Bounds.{Least}
-use Rattle.theory.proofs.Order.{le-self, le-equal, larger-left, larger-right, larger-mono}
-use Rattle.rounds.specs.declared.graph.Move.{Move}
-use Rattle.rounds.specs.declared.graph.Move.the-variants.{Shut, Go, Fork}
-use Rattle.rounds.specs.declared.graph.Choice.{Choice}
+use Rattle.theory.proofs.Order.{larger-left, larger-right, larger-mono}
 use Rattle.rounds.specs.declared.graph.Choice.the-variants.{End, Take}
 use Rattle.rounds.specs.declared.graph.Tentative.{Tentative}
 use Rattle.rounds.specs.Graph.{Graph, NumberedWay, end, by-action, by-sensing, numbered-total}
-use Rattle.rounds.specs.Rounds.{total-at, both, rest-total, unless-settled, best-below, taken, by-step, by-step-at, best-step, tentative, best-node}
-use Rattle.rounds.proofs.Lists.{none-some, some-same, cases-some, some-within, step-within}
-use Rattle.rounds.proofs.Scans.{best-none, best-one, best-least}
+use Rattle.rounds.specs.Rounds.{total-at, both, rest-total, unless-settled, best-below, taken, by-step-at, best-step, tentative, best-node}
+use Rattle.rounds.proofs.Lists.{none-some, cases-some, step-within}
+use Rattle.rounds.proofs.Scans.{best-none, best-least}
 
 module _ {T : Type 0} {le : T → T → Bool} {nothing : T} {add : Step → T → T} (laws : Laws le nothing add) (g : Graph) (totals : List (Option T)) where
   -- the total of a procedure
@@ -73,7 +69,7 @@ module _ {T : Type 0} {le : T → T → Bool} {nothing : T} {add : Step → T �
                     tried = best .0;
                     is-node = h;
                     is-tried = tried-at i (Some (best .0)) none (cond-false _ _ _ ended ∙ best .1);
-                    at-most = best-least laws rule (length (g .steps)) (best .0) (best .1) k tried within here
+                    at-most = best-least laws rule (length (g .steps)) (best .0) (best .1) k tried within here;
                   }
             ]
       ]
@@ -104,7 +100,7 @@ module _ {T : Type 0} {le : T → T → Bool} {nothing : T} {add : Step → T �
                   front-up b (add x rest) (laws .transitive b rest (add x rest) (larger-right laws a b) (laws .no-less x rest)) (front below size on-no also ahead)
               | inr v ↦
                   let both-known : rest-total le totals (g .move i k) ≡ Some (larger le (u .0) (v .0)) =
-                      ap (rest-total le totals) moves ∙ ap (λ (o : Option T). both le o (total-at totals other)) (u .1) ∙ ap (both le (Some (u .0))) (v .1) in
+                  ap (rest-total le totals) moves ∙ ap (λ (o : Option T). both le o (total-at totals other)) (u .1) ∙ ap (both le (Some (u .0))) (v .1) in
                   front-up (add x (larger le (u .0) (v .0))) (add x rest)
                   (laws .monotone x (larger le (u .0) (v .0)) rest (larger-mono laws (u .0) (v .0) a b (below next (u .0) there (u .1) on-yes) (below other (v .0) also (v .1) on-no)))
                   (front-step i k x (larger le (u .0) (v .0)) h none of-steps both-known)

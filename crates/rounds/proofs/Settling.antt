@@ -1,13 +1,13 @@
 -- One round keeps what is known of the settled nodes, and the last one leaves nothing to settle.
 -- Assumes nothing.
 use mathlib.Core.Path.{_≡_, refl, sym, _∙_, ap, subst}
-use mathlib.Core.Bool.{Bool, true, false, cond}
+use mathlib.Core.Bool.{Bool, cond}
 use mathlib.Core.Logic.{_⊎_, inl, inr}
 use mathlib.Core.List.{List, _++_}
-use Prim.Native.Nat.{ℕ, zero, suc, _+_, _<_}
+use Prim.Native.Nat.{ℕ, suc, _+_, _<_}
 use native.Mathlib.Nat.{not-suc-le-zero}
 use native.Mathlib.Omega.{arith}
-use lib.ListN.{length, getD, set}
+use lib.ListN.{length, set}
 use Rattle.std.specs.declared.option.Option.{Option}
 use Rattle.std.specs.declared.option.Option.the-variants.{Some, None}
 use Rattle.std.proofs.shelf.Tests.{cases-bool, cases-eq, cases-lt, cond-true, cond-false}
@@ -16,14 +16,13 @@ use Rattle.worlds.specs.Tickets.{step-at}
 use Rattle.tally.specs.Laws.{Laws}
 use Rattle.theory.specs.Procedures.{larger}
 use Rattle.theory.specs.Bounds.{Least}
-use Rattle.theory.proofs.Order.{le-self, le-equal, larger-left, larger-right, larger-mono}
 use Rattle.rounds.specs.declared.graph.Move.{Move}
 use Rattle.rounds.specs.declared.graph.Move.the-variants.{Shut, Go, Fork}
 use Rattle.rounds.specs.declared.graph.Choice.{Choice}
 use Rattle.rounds.specs.declared.graph.Choice.the-variants.{End, Take}
 use Rattle.rounds.specs.declared.graph.Tentative.{Tentative}
 use Rattle.rounds.specs.Graph.{Graph, graph-of, NumberedWay, end, by-action, by-sensing, numbered-total}
-use Rattle.rounds.specs.Rounds.{total-at, unsettled, both, rest-total, unless-settled, best-below, taken, by-step, by-step-at, best-step, tentative, best-node}
+use Rattle.rounds.specs.Rounds.{total-at, unsettled, both, rest-total, unless-settled, taken, by-step-at, best-step, tentative, best-node}
 use Rattle.std.proofs.shelf.Lists.{getD-set-same, getD-set-other, getD-append-left}
 use Rattle.worlds.specs.declared.step.Step as code-step
 use Rattle.rounds.specs.declared.graph.Mark.{Mark}
@@ -116,7 +115,7 @@ module _ {T : Type 0} {le : T → T → Bool} {nothing : T} {add : Step → T �
                     within = h;
                     ahead = none;
                     way = way-from j k (x .0) (rest .0) (x .1) (g .move j k) refl (rest .1);
-                    account = (x .0, rest .0, x .1, follows (g .move j k) (rest .0) (rest .1), refl)
+                    account = (x .0, rest .0, x .1, follows (g .move j k) (rest .0) (rest .1), refl);
                   })
             ]
       ]
@@ -173,7 +172,7 @@ module _ {T : Type 0} {le : T → T → Bool} {nothing : T} {add : Step → T �
             inl (
               same,
               some-same (sym f ∙ getD-set-same totals (o .node) (Some (o .total)) None (n .within)),
-              subst (λ (k : ℕ). mark-at (marks-after o) k ≡ record { choice = o .choice; rank = count }) (sym same) (getD-set-same marks (o .node) _ _ (omega (arith, n .within)))
+              subst (λ (k : ℕ). mark-at (marks-after o) k ≡ record { choice = o .choice; rank = count }) (sym same) (getD-set-same marks (o .node) _ _ (omega (arith, n .within))),
             )
         | inr ne ↦ inr (sym (getD-set-other totals (o .node) i (Some (o .total)) None ne) ∙ e, getD-set-other marks (o .node) i _ _ ne)
       ]
@@ -206,13 +205,12 @@ module _ {T : Type 0} {le : T → T → Bool} {nothing : T} {add : Step → T �
             let s = stays o n (k .0) (k .1) (k .2) (k .3) in
             (k .0, k .1, k .2, s .0, ap (λ (m : Mark). m .rank) (s .1) ∙ k .4)
         | inr l ↦
-            let now : count ≡ r = omega arith in
-            (
+            let now : count ≡ r = omega arith in (
               o .node,
               o .total,
               omega (arith, n .within),
               getD-set-same totals (o .node) (Some (o .total)) None (n .within),
-              ap (λ (m : Mark). m .rank) (getD-set-same marks (o .node) (record { choice = o .choice; rank = count }) _ (omega (arith, n .within))) ∙ now
+              ap (λ (m : Mark). m .rank) (getD-set-same marks (o .node) (record { choice = o .choice; rank = count }) _ (omega (arith, n .within))) ∙ now,
             )
       ]
 
@@ -247,8 +245,8 @@ module _ {T : Type 0} {le : T → T → Bool} {nothing : T} {add : Step → T �
           chosen = λ i t h e. chosen-after o n i t h (after o n of-marks i t e);
           ranked = λ i t h e. rank-below o i t h (after o n of-marks i t e);
           apart = λ i j t u h l e f same. ranks-apart o i j t u h l (after o n of-marks i t e) (after o n of-marks j u f) same;
-          each-rank = rank-of-each o n of-marks
-        }
+          each-rank = rank-of-each o n of-marks;
+        };
       }
 
   -- the node that a round settles is one
@@ -258,11 +256,10 @@ module _ {T : Type 0} {le : T → T → Bool} {nothing : T} {add : Step → T �
   -- the same of the lists that it leaves; and one node less is unsettled
   pub round-leaves : (o : Tentative T) → Some o ≡ best-node le nothing add g totals → length marks ≡ length totals → (ts : List (Option T)) (ms : List Mark) → ts ≡ set totals (o .node) (Some (o .total)) → ms ≡ set marks (o .node) (record { choice = o .choice; rank = count }) → Part le nothing add g ts ms (count + 1) × (suc (unsettled ts) ≡ unsettled totals)
   round-leaves o best of-marks ts ms e f =
-      let n = next o (sym best) in
-      (
+      let n = next o (sym best) in (
         subst (λ (us : List (Option T)). Part le nothing add g us ms (count + 1)) (sym e)
-        (subst (λ (ns : List Mark). Part le nothing add g (totals-after o) ns (count + 1)) (sym f) (round-keeps o (sym best) of-marks)),
-        subst (λ (us : List (Option T)). suc (unsettled us) ≡ unsettled totals) (sym e) (one-settled totals (o .node) (o .total) (n .within) (n .ahead))
+            (subst (λ (ns : List Mark). Part le nothing add g (totals-after o) ns (count + 1)) (sym f) (round-keeps o (sym best) of-marks)),
+        subst (λ (us : List (Option T)). suc (unsettled us) ≡ unsettled totals) (sym e) (one-settled totals (o .node) (o .total) (n .within) (n .ahead)),
       )
 
   -- where there is nothing more to settle, all is settled
@@ -270,7 +267,7 @@ module _ {T : Type 0} {le : T → T → Bool} {nothing : T} {add : Step → T �
   all-settled none =
       record {
         least = λ i h. each i h (total-at totals i) refl;
-        marked = part .marked
+        marked = part .marked;
       }
     where
       each : (i : ℕ) → i < g .size → (v : Option T) → total-at totals i ≡ v → Least {P = NumberedWay g i} le (λ p. numbered-total le nothing add p) v
@@ -287,8 +284,8 @@ module _ {T : Type 0} {le : T → T → Bool} {nothing : T} {add : Step → T �
           chosen = λ i t h e. absurd (none-some (sym (none i h) ∙ e));
           ranked = λ i t h e. absurd (none-some (sym (none i h) ∙ e));
           apart = λ i j t u h l e f same. absurd (none-some (sym (none i h) ∙ e));
-          each-rank = λ r h. absurd (not-suc-le-zero h)
-        }
+          each-rank = λ r h. absurd (not-suc-le-zero h);
+        };
       }
 
 module _ {T : Type 0} (le : T → T → Bool) (nothing : T) (add : Step → T → T) where
@@ -307,8 +304,8 @@ module _ {T : Type 0} (le : T → T → Bool) (nothing : T) (add : Step → T �
               (ap (λ (m : Mark). m .rank) (sym (same-mark i h)) ∙ same ∙ ap (λ (m : Mark). m .rank) (same-mark j l));
           each-rank = λ r h.
               let k = s .marked .each-rank r h in
-              (k .0, k .1, k .2, same-total (k .0) (k .2) ∙ k .3, ap (λ (m : Mark). m .rank) (same-mark (k .0) (k .2)) ∙ k .4)
-        }
+              (k .0, k .1, k .2, same-total (k .0) (k .2) ∙ k .3, ap (λ (m : Mark). m .rank) (same-mark (k .0) (k .2)) ∙ k .4);
+        };
       }
 
   -- the same with more behind both lists

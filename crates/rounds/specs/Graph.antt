@@ -4,8 +4,7 @@ use mathlib.Core.Bool.{Bool, true, false}
 use mathlib.Core.List.{List, [], map}
 use Prim.Native.Nat.{ℕ, _<_, min}
 use lib.ListN.{length, getD}
-use Rattle.std.specs.declared.option.Option.{Option}
-use Rattle.std.specs.declared.option.Option.the-variants.{Some, None}
+use Rattle.std.specs.declared.option.Option.the-variants.{Some}
 use Rattle.worlds.specs.declared.step.Step as code-step
 use Rattle.worlds.specs.Steps.{Step}
 use Rattle.worlds.specs.Tickets.{step-at}
@@ -29,7 +28,7 @@ graph-of steps moves ends size = record {
   size = size;
   steps = map step-of steps;
   move = λ i k. getD (getD moves i []) k Shut;
-  ends = λ i. getD ends i false
+  ends = λ i. getD ends i false;
 }
 
 -- how many nodes four lists have: those numbers that are places of each

@@ -1,6 +1,5 @@
 -- One round: the tentative totals of the nodes, and the least of them.
-use mathlib.Core.Path.{_≡_}
-use mathlib.Core.Bool.{Bool, true, false, cond}
+use mathlib.Core.Bool.{Bool, cond}
 use mathlib.Core.List.{List, [], _∷_}
 use Prim.Native.Nat.{ℕ, zero, suc}
 use lib.ListN.{getD, length}
@@ -11,7 +10,6 @@ use Rattle.worlds.specs.Tickets.{step-at}
 use Rattle.theory.specs.Procedures.{larger}
 use Rattle.rounds.specs.declared.graph.Move.{Move}
 use Rattle.rounds.specs.declared.graph.Move.the-variants.{Shut, Go, Fork}
-use Rattle.rounds.specs.declared.graph.Choice.{Choice}
 use Rattle.rounds.specs.declared.graph.Choice.the-variants.{End, Take}
 use Rattle.rounds.specs.declared.graph.Tentative.{Tentative}
 use Rattle.rounds.specs.Graph.{Graph}

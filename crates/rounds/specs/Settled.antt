@@ -3,9 +3,9 @@ use mathlib.Core.Path.{_≡_}
 use mathlib.Core.Bool.{Bool, true}
 use mathlib.Core.List.{List}
 use Prim.Native.Nat.{ℕ, _<_}
-use lib.ListN.{getD}
+use lib.ListN.{getD, drop}
 use Rattle.std.specs.declared.option.Option.{Option}
-use Rattle.std.specs.declared.option.Option.the-variants.{Some, None}
+use Rattle.std.specs.declared.option.Option.the-variants.{Some}
 use Rattle.worlds.specs.Steps.{Step}
 use Rattle.worlds.specs.Tickets.{step-at}
 use Rattle.theory.specs.Procedures.{larger}
@@ -57,3 +57,9 @@ module _ {T : Type 0} (le : T → T → Bool) (nothing : T) (add : Step → T �
   pub record Settled (g : Graph) (totals : List (Option T)) (marks : List Mark) (count : ℕ) : Type 0 where
     pub least : (i : ℕ) → i < g .size → Least {P = NumberedWay g i} le (λ p. numbered-total le nothing add p) (total-at totals i)
     pub marked : Marked g totals marks count
+
+  -- that this is so of the lists that are left, and that beyond the nodes they are as before
+  pub record Settles (g : Graph) (totals-before : List (Option T)) (marks-before : List Mark) (totals : List (Option T)) (marks : List Mark) (count : ℕ) : Type 0 where
+    pub settled : Settled g totals marks count
+    pub totals-beyond : drop (g .size) totals ≡ drop (g .size) totals-before
+    pub marks-beyond : drop (g .size) marks ≡ drop (g .size) marks-before

@@ -1,8 +1,8 @@
 // One round of settling: the least tentative total of all nodes that are not settled.
 ghost use mathlib.Core.Path.{_≡_};
-ghost use mathlib.Core.Bool.{Bool, false};
+ghost use mathlib.Core.Bool.{false};
 ghost use mathlib.Core.List.{[], map};
-ghost use Prim.Native.Nat.{ℕ, _<_};
+ghost use Prim.Native.Nat.{_<_};
 ghost use lib.ListN.{length, getD};
 ghost use Rattle.worlds.specs.Meaning.{step-of};
 ghost use Rattle.theory.specs.Procedures.{larger};
@@ -51,7 +51,11 @@ fn rest_of<T: Tally>(totals: &[Option<T::Total>], to: Move) -> Option<T::Total>
 fn move_at(moves: &[[Move; 32]], node: usize, step: usize) -> Move
     ensures { λ r. ⌜ r ≡ getD (getD (now (moves .entry)) node []) step Shut ⌝ }
 {
-    if node < moves.len() && step < 32 { moves[node][step] } else { Move::Shut }
+    if node < moves.len() && step < 32 {
+        moves[node][step]
+    } else {
+        Move::Shut
+    }
 }
 
 fn may_end(ends: &[bool], node: usize) -> bool
@@ -60,7 +64,10 @@ fn may_end(ends: &[bool], node: usize) -> bool
     node < ends.len() && ends[node]
 }
 
-fn better_of<T: Tally>(a: Option<Tentative<T::Total>>, b: Option<Tentative<T::Total>>) -> Option<Tentative<T::Total>>
+fn better_of<T: Tally>(
+    a: Option<Tentative<T::Total>>,
+    b: Option<Tentative<T::Total>>,
+) -> Option<Tentative<T::Total>>
     ensures { λ r. ⌜ r ≡ better (T·Tally .le) a b ⌝ }
 {
     match (a, b) {
@@ -71,7 +78,13 @@ fn better_of<T: Tally>(a: Option<Tentative<T::Total>>, b: Option<Tentative<T::To
 }
 
 // The tentative total of a node by a step, of this number, that leads there as `to` says.
-fn by_step<T: Tally>(step: &Step, totals: &[Option<T::Total>], node: usize, number: usize, to: Move) -> Option<Tentative<T::Total>>
+fn by_step<T: Tally>(
+    step: &Step,
+    totals: &[Option<T::Total>],
+    node: usize,
+    number: usize,
+    to: Move,
+) -> Option<Tentative<T::Total>>
     ensures { λ r. ⌜ r ≡ by-step (T·Tally .le) (T·Tally .nothing) (T·Tally .add) (now (totals .entry)) node number to (step-of (now (step .entry))) ⌝ }
 {
     match rest_of::<T>(totals, to) {
@@ -85,18 +98,32 @@ fn by_step<T: Tally>(step: &Step, totals: &[Option<T::Total>], node: usize, numb
 }
 
 // The least by any step; of steps that tie, the first.
-fn best_step<T: Tally>(steps: &[Step], moves: &[[Move; 32]], totals: &[Option<T::Total>], node: usize) -> Option<Tentative<T::Total>>
+fn best_step<T: Tally>(
+    steps: &[Step],
+    moves: &[[Move; 32]],
+    totals: &[Option<T::Total>],
+    node: usize,
+) -> Option<Tentative<T::Total>>
     ensures { λ r. ⌜ r ≡ best-step (T·Tally .le) (T·Tally .nothing) (T·Tally .add) (map step-of (now (steps .entry))) (now (totals .entry)) node (λ k. getD (getD (now (moves .entry)) node []) k Shut) ⌝ }
 {
     let mut best = None;
     for k in 0..steps.len() {
-        best = better_of::<T>(best, by_step::<T>(&steps[k], totals, node, k, move_at(moves, node, k)));
+        best = better_of::<T>(
+            best,
+            by_step::<T>(&steps[k], totals, node, k, move_at(moves, node, k)),
+        );
     }
     best
 }
 
 // The least tentative total of a node that is not settled. Where it ends, that is nothing, and no step gives less.
-fn tentative_at<T: Tally>(steps: &[Step], moves: &[[Move; 32]], ends: &[bool], totals: &[Option<T::Total>], node: usize) -> Option<Tentative<T::Total>>
+fn tentative_at<T: Tally>(
+    steps: &[Step],
+    moves: &[[Move; 32]],
+    ends: &[bool],
+    totals: &[Option<T::Total>],
+    node: usize,
+) -> Option<Tentative<T::Total>>
     requires { ⌜ node < length (now totals) ⌝ }
     ensures { λ r. ⌜ r ≡ tentative (T·Tally .le) (T·Tally .nothing) (T·Tally .add) (graph-of (now (steps .entry)) (now (moves .entry)) (now (ends .entry)) (length (now (totals .entry)))) (now (totals .entry)) node ⌝ }
 {
@@ -115,7 +142,12 @@ fn tentative_at<T: Tally>(steps: &[Step], moves: &[[Move; 32]], ends: &[bool], t
 }
 
 // The least of all nodes; of nodes that tie, the first.
-pub fn best_node<T: Tally>(steps: &[Step], moves: &[[Move; 32]], ends: &[bool], totals: &[Option<T::Total>]) -> Option<Tentative<T::Total>>
+pub fn best_node<T: Tally>(
+    steps: &[Step],
+    moves: &[[Move; 32]],
+    ends: &[bool],
+    totals: &[Option<T::Total>],
+) -> Option<Tentative<T::Total>>
     ensures { λ r. ⌜ r ≡ best-node (T·Tally .le) (T·Tally .nothing) (T·Tally .add) (graph-of (now (steps .entry)) (now (moves .entry)) (now (ends .entry)) (length (now (totals .entry)))) (now (totals .entry)) ⌝ }
 {
     let mut best = None;

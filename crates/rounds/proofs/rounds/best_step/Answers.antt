@@ -1,6 +1,5 @@
 use mathlib.Core.Path.{_≡_, sym, _∙_, ap}
 use mathlib.Core.List.{[], map}
-use Prim.Native.Nat.{ℕ}
 use native.Mathlib.Omega.{arith}
 use lib.ListN.{getD, length, length-map}
 use Rattle.std.specs.declared.option.Option.the-variants.{Some}

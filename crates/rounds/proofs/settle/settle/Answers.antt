@@ -20,5 +20,5 @@ returns g c =
           settled-before-more (g .T·Tally .le) (g .T·Tally .nothing) (g .T·Tally .add) (c .args .steps .now) (c .args .moves .now) (c .args .ends .now) (length (c .clear .last .totals)) n (c .settle-nodes .last .totals) (drop size ts) (c .settle-nodes .last .marks) (drop size ms) (c .settle-nodes .result)
           (omega arith) (omega arith) (omega arith) (c .settle-nodes .ensures);
       totals-beyond = drop-append-drop size ts (c .settle-nodes .last .totals) n (omega arith) of-totals;
-      marks-beyond = drop-append-drop size ms (c .settle-nodes .last .marks) n (omega arith) of-marks
+      marks-beyond = drop-append-drop size ms (c .settle-nodes .last .marks) n (omega arith) of-marks;
     }
