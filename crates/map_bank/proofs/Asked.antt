@@ -68,9 +68,10 @@ pub record NextMade (b : MapBank) (set step : ℕ) (os : List Outcome) (made : L
   pub some : none-in (conditions-of b) (set-of (conditions-of b) made) ≡ false
 
 pub lawful-here : (b : MapBank) (step k : ℕ) (os given : List Outcome) → Some os ≡ outcomes-of (step-at (ticket-of (b .ticket) .steps) step) → k ≡ conditions-of b → given ≡ os → (k ≤ 10) × (every (lawful-outcome k) given ≡ true)
-lawful-here b step k os given eo ek eg =
-    (subst (λ (j : ℕ). j ≤ 10) (sym ek) (b .small),
-    subst (λ (j : ℕ). every (lawful-outcome j) given ≡ true) (sym ek) (subst (λ (o : List Outcome). every (lawful-outcome (conditions-of b)) o ≡ true) (sym eg) (outcomes-lawful (ticket-of (b .ticket)) step os (b .ticket .lawful) (sym eo) .1)))
+lawful-here b step k os given eo ek eg = (
+  subst (λ (j : ℕ). j ≤ 10) (sym ek) (b .small),
+  subst (λ (j : ℕ). every (lawful-outcome j) given ≡ true) (sym ek) (subst (λ (o : List Outcome). every (lawful-outcome (conditions-of b)) o ≡ true) (sym eg) (outcomes-lawful (ticket-of (b .ticket)) step os (b .ticket .lawful) (sym eo) .1)),
+)
 
 pub next-made-so : (b : MapBank) (set step k : ℕ) (os given : List Outcome) (row made : List ℕ) → Some row ≡ row-kept set (rows-in b) → Some os ≡ outcomes-of (step-at (ticket-of (b .ticket) .steps) step) → k ≡ conditions-of b → given ≡ os →
     ((v : World k) → set-of k made v ≡ successor k given (set-of k row) v) × Tidy k made → NextMade b set step os made

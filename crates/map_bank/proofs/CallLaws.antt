@@ -114,16 +114,18 @@ module _ (t : Ticket) (rows : List (List ℕ)) (cap : ℕ) where
   pub put-full : (row : List ℕ) → place-of (t .conditions) (meaning-with t rows cap .held) (set-of (t .conditions) row) ≡ length rows → cap ≤ length rows → (Err Full ≡ row-answer (meaning-with t rows cap) row) × (meaning-with t rows cap ≡ row-leaves (meaning-with t rows cap) row)
   put-full row e h =
       let full : leb cap (length (m .held)) ≡ true = le-leb cap (length (m .held)) (subst (λ (k : ℕ). cap ≤ k) (sym long) h) in
-      let new : is-held n (m .held) (set-of n row) ≡ false = le-ltb (place row) (length (m .held)) (omega (arith, long)) in
-      (ap (λ (b : Bool). unless (fault-by b false) (place row)) (sym full) ∙ ap (λ (b : Bool). unless (fault-by (leb cap (length (m .held))) b) (place row)) (sym new),
-      ap (λ (b : Bool). left-as row b false) (sym full) ∙ ap (λ (b : Bool). left-as row (leb cap (length (m .held))) b) (sym new))
+      let new : is-held n (m .held) (set-of n row) ≡ false = le-ltb (place row) (length (m .held)) (omega (arith, long)) in (
+        ap (λ (b : Bool). unless (fault-by b false) (place row)) (sym full) ∙ ap (λ (b : Bool). unless (fault-by (leb cap (length (m .held))) b) (place row)) (sym new),
+        ap (λ (b : Bool). left-as row b false) (sym full) ∙ ap (λ (b : Bool). left-as row (leb cap (length (m .held))) b) (sym new),
+      )
 
   pub put-new : (row : List ℕ) → place-of (t .conditions) (meaning-with t rows cap .held) (set-of (t .conditions) row) ≡ length rows → length rows < cap → (Ok (place-of (t .conditions) (meaning-with t rows cap .held) (set-of (t .conditions) row)) ≡ row-answer (meaning-with t rows cap) row) × (pushed-to (meaning-with t rows cap) row ≡ row-leaves (meaning-with t rows cap) row)
   put-new row e h =
       let free : leb cap (length (m .held)) ≡ false = lt-leb cap (length (m .held)) (subst (λ (k : ℕ). k < cap) (sym long) h) in
-      let new : is-held n (m .held) (set-of n row) ≡ false = le-ltb (place row) (length (m .held)) (omega (arith, long)) in
-      (ap (λ (b : Bool). unless (fault-by b false) (place row)) (sym free) ∙ ap (λ (b : Bool). unless (fault-by (leb cap (length (m .held))) b) (place row)) (sym new),
-      ap (λ (b : Bool). left-as row b false) (sym free) ∙ ap (λ (b : Bool). left-as row (leb cap (length (m .held))) b) (sym new))
+      let new : is-held n (m .held) (set-of n row) ≡ false = le-ltb (place row) (length (m .held)) (omega (arith, long)) in (
+        ap (λ (b : Bool). unless (fault-by b false) (place row)) (sym free) ∙ ap (λ (b : Bool). unless (fault-by (leb cap (length (m .held))) b) (place row)) (sym new),
+        ap (λ (b : Bool). left-as row b false) (sym free) ∙ ap (λ (b : Bool). left-as row (leb cap (length (m .held))) b) (sym new),
+      )
 
   and-never : (b : Bool) → (b && false) ≡ false
   and-never true = refl
@@ -134,9 +136,10 @@ module _ (t : Ticket) (rows : List (List ℕ)) (cap : ℕ) where
       let le = place-le n (m .held) (set-of n row) in
       let below : place row < length (m .held) = omega (arith, long, le, e) in
       let old : is-held n (m .held) (set-of n row) ≡ true = lt-ltb (place row) (length (m .held)) below in
-      let full = leb cap (length (m .held)) in
-      (ap (λ (b : Bool). unless (refuse-if b Full) (place row)) (sym (and-never full)) ∙ ap (λ (b : Bool). unless (fault-by full b) (place row)) (sym old),
-      ap (λ (b : Bool). left-by (refuse-if b Full) m m) (sym (and-never full)) ∙ ap (λ (b : Bool). left-as row full b) (sym old))
+      let full = leb cap (length (m .held)) in (
+        ap (λ (b : Bool). unless (refuse-if b Full) (place row)) (sym (and-never full)) ∙ ap (λ (b : Bool). unless (fault-by full b) (place row)) (sym old),
+        ap (λ (b : Bool). left-by (refuse-if b Full) m m) (sym (and-never full)) ∙ ap (λ (b : Bool). left-as row full b) (sym old),
+      )
 
   -- what putting a set by a call leaves, where the call keeps it as a row
   abbrev put-by : Worlds n → List ℕ → Meaning
@@ -166,18 +169,20 @@ module _ (t : Ticket) (rows : List (List ℕ)) (cap : ℕ) where
       (ap (λ (b : Bool). next-told set step b (outcomes step)) (sym (gone set h)), ap (λ (b : Bool). next-left set step b (outcomes step)) (sym (gone set h)))
 
   pub next-no-step : (set step : ℕ) → set < length rows → outcomes-of (step-at (t .steps) step) ≡ None → (Err WrongStep ≡ next-answer map-nature set step (meaning-with t rows cap)) × (meaning-with t rows cap ≡ next-leaves map-nature set step (meaning-with t rows cap))
-  next-no-step set step h e =
-      (ap (λ (o : Option (List Outcome)). next-told set step false o) (sym e) ∙ ap (λ (b : Bool). next-told set step b (outcomes step)) (sym (there set h)),
-      ap (λ (o : Option (List Outcome)). next-left set step false o) (sym e) ∙ ap (λ (b : Bool). next-left set step b (outcomes step)) (sym (there set h)))
+  next-no-step set step h e = (
+    ap (λ (o : Option (List Outcome)). next-told set step false o) (sym e) ∙ ap (λ (b : Bool). next-told set step b (outcomes step)) (sym (there set h)),
+    ap (λ (o : Option (List Outcome)). next-left set step false o) (sym e) ∙ ap (λ (b : Bool). next-left set step b (outcomes step)) (sym (there set h)),
+  )
 
   pub next-goes : (set step : ℕ) (os : List Outcome) (row : List ℕ) → set < length rows → outcomes-of (step-at (t .steps) step) ≡ Some os → row ≡ row-of (t .conditions) (set-of (t .conditions) row) → set-of (t .conditions) row ≡ successor (t .conditions) os (set-of (t .conditions) (getD rows set [])) → (row-answer (meaning-with t rows cap) row ≡ next-answer map-nature set step (meaning-with t rows cap)) × (row-leaves (meaning-with t rows cap) row ≡ next-leaves map-nature set step (meaning-with t rows cap))
   next-goes set step os row h e canon is =
       let set-is : set-of n row ≡ next-set os set m = is ∙ ap (λ (s : Worlds n). successor n os s) (sym (set-there set h)) in
       let kept-is : row ≡ map-nature .keeps t rows (bank.action set step) =
-      canon ∙ ap (row-of n) (is ∙ ap (λ (o : Option (List Outcome)). made-by n o (set-of n (getD rows set []))) (sym e)) in
-      (ap told-by set-is ∙ ap (λ (o : Option (List Outcome)). next-told set step false o) (sym e) ∙ ap (λ (b : Bool). next-told set step b (outcomes step)) (sym (there set h)),
-      ap (λ (s : Worlds n). put-by s row) set-is ∙ ap (put-by (next-set os set m)) kept-is
-      ∙ ap (λ (o : Option (List Outcome)). next-left set step false o) (sym e) ∙ ap (λ (b : Bool). next-left set step b (outcomes step)) (sym (there set h)))
+      canon ∙ ap (row-of n) (is ∙ ap (λ (o : Option (List Outcome)). made-by n o (set-of n (getD rows set []))) (sym e)) in (
+        ap told-by set-is ∙ ap (λ (o : Option (List Outcome)). next-told set step false o) (sym e) ∙ ap (λ (b : Bool). next-told set step b (outcomes step)) (sym (there set h)),
+        ap (λ (s : Worlds n). put-by s row) set-is ∙ ap (put-by (next-set os set m)) kept-is
+            ∙ ap (λ (o : Option (List Outcome)). next-left set step false o) (sym e) ∙ ap (λ (b : Bool). next-left set step b (outcomes step)) (sym (there set h)),
+      )
 
   -- ## Split
 
@@ -199,9 +204,10 @@ module _ (t : Ticket) (rows : List (List ℕ)) (cap : ℕ) where
       (ap (λ (b : Bool). split-told set step so b (sensed step)) (sym (gone set h)), ap (λ (b : Bool). split-left set step so b (sensed step)) (sym (gone set h)))
 
   pub split-no-step : (set step : ℕ) (so : Bool) → set < length rows → sensed-of (step-at (t .steps) step) ≡ None → (Err WrongStep ≡ split-answer map-nature set step so (meaning-with t rows cap)) × (meaning-with t rows cap ≡ split-leaves map-nature set step so (meaning-with t rows cap))
-  split-no-step set step so h e =
-      (ap (λ (o : Option Literal). split-told set step so false o) (sym e) ∙ ap (λ (b : Bool). split-told set step so b (sensed step)) (sym (there set h)),
-      ap (λ (o : Option Literal). split-left set step so false o) (sym e) ∙ ap (λ (b : Bool). split-left set step so b (sensed step)) (sym (there set h)))
+  split-no-step set step so h e = (
+    ap (λ (o : Option Literal). split-told set step so false o) (sym e) ∙ ap (λ (b : Bool). split-told set step so b (sensed step)) (sym (there set h)),
+    ap (λ (o : Option Literal). split-left set step so false o) (sym e) ∙ ap (λ (b : Bool). split-left set step so b (sensed step)) (sym (there set h)),
+  )
 
   -- the side's set, and what its emptiness decides
   abbrev side-told : Worlds n → Bool → Result ℕ BankFault
@@ -224,18 +230,20 @@ module _ (t : Ticket) (rows : List (List ℕ)) (cap : ℕ) where
 
     pub split-empty : none-in (t .conditions) (set-of (t .conditions) row) ≡ true → (Err EmptySide ≡ split-answer map-nature set step so (meaning-with t rows cap)) × (meaning-with t rows cap ≡ split-leaves map-nature set step so (meaning-with t rows cap))
     split-empty none =
-        let none-is : none-in n (side-set l so set m) ≡ true = ap (none-in n) (sym side-is) ∙ none in
-        (ap (side-told (side-set l so set m)) (sym none-is) ∙ told-rest,
-        ap (side-left (side-set l so set m) (map-nature .keeps t rows (bank.sensing set step so))) (sym none-is) ∙ left-rest)
+        let none-is : none-in n (side-set l so set m) ≡ true = ap (none-in n) (sym side-is) ∙ none in (
+          ap (side-told (side-set l so set m)) (sym none-is) ∙ told-rest,
+          ap (side-left (side-set l so set m) (map-nature .keeps t rows (bank.sensing set step so))) (sym none-is) ∙ left-rest,
+        )
 
     pub split-goes : none-in (t .conditions) (set-of (t .conditions) row) ≡ false → row ≡ row-of (t .conditions) (set-of (t .conditions) row) → (row-answer (meaning-with t rows cap) row ≡ split-answer map-nature set step so (meaning-with t rows cap)) × (row-leaves (meaning-with t rows cap) row ≡ split-leaves map-nature set step so (meaning-with t rows cap))
     split-goes some canon =
         let some-is : none-in n (side-set l so set m) ≡ false = ap (none-in n) (sym side-is) ∙ some in
         let kept-is : row ≡ map-nature .keeps t rows (bank.sensing set step so) =
-        canon ∙ ap (row-of n) (is ∙ ap (λ (o : Option Literal). side-by n o so (set-of n (getD rows set []))) (sym e)) in
-        (ap told-by side-is ∙ ap (side-told (side-set l so set m)) (sym some-is) ∙ told-rest,
-        ap (λ (s : Worlds n). put-by s row) side-is ∙ ap (put-by (side-set l so set m)) kept-is
-        ∙ ap (side-left (side-set l so set m) (map-nature .keeps t rows (bank.sensing set step so))) (sym some-is) ∙ left-rest)
+        canon ∙ ap (row-of n) (is ∙ ap (λ (o : Option Literal). side-by n o so (set-of n (getD rows set []))) (sym e)) in (
+          ap told-by side-is ∙ ap (side-told (side-set l so set m)) (sym some-is) ∙ told-rest,
+          ap (λ (s : Worlds n). put-by s row) side-is ∙ ap (put-by (side-set l so set m)) kept-is
+              ∙ ap (side-left (side-set l so set m) (map-nature .keeps t rows (bank.sensing set step so))) (sym some-is) ∙ left-rest,
+        )
 
   -- ## Shorten
 
@@ -246,10 +254,11 @@ module _ (t : Ticket) (rows : List (List ℕ)) (cap : ℕ) where
 
   pub shorten-done : (count : ℕ) → count ≤ length rows → (Ok (tt {0}) ≡ unless (shorten-fault count (meaning-with t rows cap)) (tt {0})) × (meaning-with t (take count rows) cap ≡ left-by (shorten-fault count (meaning-with t rows cap)) (meaning-with t rows cap) (shortened count (meaning-with t rows cap)))
   shorten-done count h =
-      let fine : ltb (length (m .held)) count ≡ false = le-ltb (length (m .held)) count (subst (λ (k : ℕ). count ≤ k) (sym long) h) in
-      (ap (λ (b : Bool). unless (refuse-if b NoSet) (tt {0})) (sym fine),
-      ap (λ (held : List (Worlds n)). record { ticket = t; held = held; kept = take count rows; capacity = cap }) (sym (take-map (set-of n) count rows))
-      ∙ ap (λ (b : Bool). left-by (refuse-if b NoSet) m (shortened count m)) (sym fine))
+      let fine : ltb (length (m .held)) count ≡ false = le-ltb (length (m .held)) count (subst (λ (k : ℕ). count ≤ k) (sym long) h) in (
+        ap (λ (b : Bool). unless (refuse-if b NoSet) (tt {0})) (sym fine),
+        ap (λ (held : List (Worlds n)). record { ticket = t; held = held; kept = take count rows; capacity = cap }) (sym (take-map (set-of n) count rows))
+            ∙ ap (λ (b : Bool). left-by (refuse-if b NoSet) m (shortened count m)) (sym fine),
+      )
 
   -- one more row
   pub one-more : (row : List ℕ) → meaning-with t (rows ++ row ∷ []) cap ≡ pushed-to (meaning-with t rows cap) row

@@ -35,7 +35,11 @@ fn step_at(ticket: &Ticket, step: usize) -> Option<Step>
     ensures { λ r. ⌜ step-in r ≡ step-at (ticket-of (now (ticket .entry)) .steps) step ⌝ }
 {
     let steps = ticket.steps();
-    if step < steps.len() { Some(steps[step]) } else { None }
+    if step < steps.len() {
+        Some(steps[step])
+    } else {
+        None
+    }
 }
 
 // The outcomes of the action of a number.

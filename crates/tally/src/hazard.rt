@@ -6,7 +6,7 @@ use worlds::step;
 // The tally of hazard: a procedure is as hazardous as the most hazardous class among its steps.
 pub struct Hazard;
 
-impl Tally for Hazard as HazardTally {
+pub impl Tally for Hazard as HazardTally {
     type Total = u16;
 
     ghost le = { leb };

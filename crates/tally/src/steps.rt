@@ -6,7 +6,7 @@ use worlds::step;
 // The tally that counts steps: each adds one, and the count stays at 65,535 once there.
 pub struct Steps;
 
-impl Tally for Steps as StepsTally {
+pub impl Tally for Steps as StepsTally {
     type Total = u16;
 
     ghost le = { leb };

@@ -12,7 +12,7 @@ use bank::fault::BankFault;
 use ticket::ticket::Ticket;
 use worlds::step::Literal;
 
-impl Bank for MapBank as MapBankBank {
+pub impl Bank for MapBank as MapBankBank {
     ghost means = { means-of };
 
     ghost nature = { map-nature };

@@ -37,7 +37,11 @@ impl MapBank {
     pub fn row(&self, set: usize) -> Option<[u64; 16]>
         ensures { λ r. ⌜ r ≡ row-kept set (means-of (now (self .entry)) .kept) ⌝ }
     {
-        if set < self.count { Some(row_at(self.words.as_slice(), set)) } else { None }
+        if set < self.count {
+            Some(row_at(self.words.as_slice(), set))
+        } else {
+            None
+        }
     }
 
     // How many sets there is room for.

@@ -38,11 +38,23 @@ ghost-self c =
     let row = c .args .row .now in
     let rows = rows-after self row _ (c .write-row .last .words) (c .told-row) (c .as-mut-slice .ensures .value) (omega arith) (c .write-row .ensures) in
     let held = map (set-of n) (rows-in self) in
-    let new : length held ≤ place-of n held (set-of n row) = subst (λ (k : ℕ). k ≤ place-of n held (set-of n row)) (sym (length-map (rows-in self) (set-of n) ∙ length-rows (self .count) (vec-items (self .words)))) (c .pre .new) in
-    (omega (arith, c .pre .room), (omega (arith, c .pre .few), (self .small,
-    (subst (λ (all : List (List ℕ)). AllTidy n all) (sym rows) (tidy-longer n (rows-in self) row (self .tidy) (c .pre .tidy)),
-    (subst (λ (all : List (List ℕ)). all-different n (map (set-of n) all) ≡ true) (sym rows)
-    (subst (λ (all : List (Worlds n)). all-different n all ≡ true) (sym (map-push (set-of n) (rows-in self) row)) (different-longer n held (set-of n row) (self .different) (c .pre .some) new)), tt)))))
+    let new : length held ≤ place-of n held (set-of n row) = subst (λ (k : ℕ). k ≤ place-of n held (set-of n row)) (sym (length-map (rows-in self) (set-of n) ∙ length-rows (self .count) (vec-items (self .words)))) (c .pre .new) in (
+      omega (arith, c .pre .room),
+      (
+        omega (arith, c .pre .few),
+        (
+          self .small,
+          (
+            subst (λ (all : List (List ℕ)). AllTidy n all) (sym rows) (tidy-longer n (rows-in self) row (self .tidy) (c .pre .tidy)),
+            (
+              subst (λ (all : List (List ℕ)). all-different n (map (set-of n) all) ≡ true) (sym rows)
+                  (subst (λ (all : List (Worlds n)). all-different n all ≡ true) (sym (map-push (set-of n) (rows-in self) row)) (different-longer n held (set-of n row) (self .different) (c .pre .some) new)),
+              tt,
+            ),
+          ),
+        ),
+      ),
+    )
 
 pub returns : need.returns
 returns c =

@@ -29,11 +29,23 @@ ghost-self c =
     let n = ticket-of (self .ticket) .conditions in
     let count = c .args .count in
     let fewer : count ≤ self .count = c .if-self-count .left in
-    let left = rows-shorter count (self .count) (vec-items (self .words)) fewer in
-    (omega (arith, self .room), (omega (arith, self .few), (self .small,
-    (subst (λ (rows : List (List ℕ)). AllTidy n rows) left (tidy-shorter n count (rows-in self) (self .tidy)),
-    (subst (λ (rows : List (List ℕ)). all-different n (map (set-of n) rows) ≡ true) left
-    (subst (λ (held : List (Worlds n)). all-different n held ≡ true) (take-map (set-of n) count (rows-in self)) (different-shorter n count (map (set-of n) (rows-in self)) (self .different))), tt)))))
+    let left = rows-shorter count (self .count) (vec-items (self .words)) fewer in (
+      omega (arith, self .room),
+      (
+        omega (arith, self .few),
+        (
+          self .small,
+          (
+            subst (λ (rows : List (List ℕ)). AllTidy n rows) left (tidy-shorter n count (rows-in self) (self .tidy)),
+            (
+              subst (λ (rows : List (List ℕ)). all-different n (map (set-of n) rows) ≡ true) left
+                  (subst (λ (held : List (Worlds n)). all-different n held ≡ true) (take-map (set-of n) count (rows-in self)) (different-shorter n count (map (set-of n) (rows-in self)) (self .different))),
+              tt,
+            ),
+          ),
+        ),
+      ),
+    )
 
 pub returns : need.returns
 returns c =
