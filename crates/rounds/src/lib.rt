@@ -1,3 +1,3 @@
 pub mod graph;
-pub mod rounds;
+mod rounds;
 pub mod settle;

@@ -142,7 +142,7 @@ fn tentative_at<T: Tally>(
 }
 
 // The least of all nodes; of nodes that tie, the first.
-pub fn best_node<T: Tally>(
+pub(crate) fn best_node<T: Tally>(
     steps: &[Step],
     moves: &[[Move; 32]],
     ends: &[bool],
