@@ -1,6 +1,6 @@
 // One round of settling: the least tentative total of all nodes that are not settled.
 ghost use mathlib.Core.Path.{_≡_};
-ghost use mathlib.Core.Bool.{false};
+ghost use mathlib.Core.Bool.{false, cond};
 ghost use mathlib.Core.List.{[], map};
 ghost use Prim.Native.Nat.{_<_};
 ghost use lib.ListN.{length, getD};
@@ -64,16 +64,26 @@ fn may_end(ends: &[bool], node: usize) -> bool
     node < ends.len() && ends[node]
 }
 
-fn better_of<T: Tally>(
-    a: Option<Tentative<T::Total>>,
-    b: Option<Tentative<T::Total>>,
-) -> Option<Tentative<T::Total>>
-    ensures { λ r. ⌜ r ≡ better (T·Tally .le) a b ⌝ }
+// Whether the later of two tentative totals is the better: where they tie, it is not.
+fn improves<T: Tally>(
+    earlier: Option<Tentative<T::Total>>,
+    later: Option<Tentative<T::Total>>,
+) -> bool
+    ensures { λ r. ⌜ better (T·Tally .le) earlier later ≡ cond r later earlier ⌝ }
 {
-    match (a, b) {
-        (Some(x), Some(y)) => if T::at_most(x.total, y.total) { a } else { b },
-        (None, _) => b,
-        _ => a,
+    match (earlier, later) {
+        (Some(a), Some(b)) => !T::at_most(a.total, b.total),
+        (None, Some(_)) => true,
+        (_, None) => false,
+    }
+}
+
+// Keeps the better of two. It writes in place, since most of what is tried does not improve on the best.
+fn keep_better<T: Tally>(best: &mut Option<Tentative<T::Total>>, new: Option<Tentative<T::Total>>)
+    ensures { λ _. ⌜ now (best .exit) ≡ better (T·Tally .le) (now (best .entry)) new ⌝ }
+{
+    if improves::<T>(*best, new) {
+        *best = new;
     }
 }
 
@@ -108,10 +118,8 @@ fn best_step<T: Tally>(
 {
     let mut best = None;
     for k in 0..steps.len() {
-        best = better_of::<T>(
-            best,
-            by_step::<T>(&steps[k], totals, node, k, move_at(moves, node, k)),
-        );
+        let here = by_step::<T>(&steps[k], totals, node, k, move_at(moves, node, k));
+        keep_better::<T>(&mut best, here);
     }
     best
 }
@@ -152,7 +160,8 @@ pub(crate) fn best_node<T: Tally>(
 {
     let mut best = None;
     for i in 0..totals.len() {
-        best = better_of::<T>(best, tentative_at::<T>(steps, moves, ends, totals, i));
+        let here = tentative_at::<T>(steps, moves, ends, totals, i);
+        keep_better::<T>(&mut best, here);
     }
     best
 }

@@ -19,9 +19,9 @@ loop-k-again g c =
     let x = c .index-steps-k .result in
     let row = getD (getD (c .args .moves .now) (c .args .node) []) k Shut in
     let here = step-at-map step-of steps k x (c .loop-k-test .taken) ∙ ap (λ (s : code-step.Step). Some (step-of s)) (sym (c .index-steps-k .is)) in
-    best-more (g .T·Tally .le) _ k (c .loop-k .best) (c .by-step .result) (c .better-of-best .result) (c .loop-k .inv)
-    (by-step-read (g .T·Tally .le) (g .T·Tally .nothing) (g .T·Tally .add) (c .args .totals .now) (c .args .node) k (c .move-at .result) row (step-of x) (step-at (map step-of steps) k) (c .by-step .result) (c .by-step .ensures) (c .move-at .ensures) here)
-    (c .better-of-best .ensures)
+    best-more (g .T·Tally .le) _ k (c .loop-k .best) (c .by-step-here .result) (c .keep-better .last .best) (c .loop-k .inv)
+    (by-step-read (g .T·Tally .le) (g .T·Tally .nothing) (g .T·Tally .add) (c .args .totals .now) (c .args .node) k (c .move-at .result) row (step-of x) (step-at (map step-of steps) k) (c .by-step-here .result) (c .by-step-here .ensures) (c .move-at .ensures) here)
+    (c .keep-better .ensures)
 
 pub returns : need.returns
 returns g c =
