@@ -9,8 +9,8 @@ use lib.IntN.{neg_ℤ-neg_ℤ}
 use lib.Signed.{lt_z}
 use Rattle.std.proofs.lemmas.Nat.{pow_below, one_shl}
 use Rattle.std.proofs.lemmas.Bool.{cases_eq, both_ways, not-true, true≢false, false≢true, eqb-true, eq-eqb, ltb-true, ltb-false, lt-ltb, leb-true, le-leb, and_parts, and_from, and_left, and_right, or_cases, or_from, or_left, or_right}
-use Rattle.worlds.specs.declared.step.Effect as code-effect
-use Rattle.worlds.specs.declared.step.Outcome as code-outcome
+use Rattle.worlds.specs.declared.step.Effect as code_effect
+use Rattle.worlds.specs.declared.step.Outcome as code_outcome
 use Rattle.worlds.specs.Meaning.{effect_of, outcome_of, listed}
 use Rattle.worlds.specs.Worlds.{World, value, world_by, Literal, opposite, same_literal, meets, speaks_within, consistent}
 use Rattle.worlds.specs.Steps.{Effect, Outcome, brings, after}
@@ -179,7 +179,7 @@ conditions_within n e fine =
 pub result_within : (n : ℕ) (e : Effect) → lawful_effect n e ≡ true → speaks_within n e.result ≡ true
 result_within n e fine = (and_parts (lawful_list n 4 e.conditions) (speaks_within n e.result) fine).1
 
-pub effect_at : (n : ℕ) (effects : List code-effect.Effect) (i : ℕ) (d : code-effect.Effect) → i < length effects → every (lawful_effect n) (map effect_of effects) ≡ true → lawful_effect n (effect_of (get_or effects i d)) ≡ true
+pub effect_at : (n : ℕ) (effects : List code_effect.Effect) (i : ℕ) (d : code_effect.Effect) → i < length effects → every (lawful_effect n) (map effect_of effects) ≡ true → lawful_effect n (effect_of (get_or effects i d)) ≡ true
 effect_at n effects i d h all = every_at (lawful_effect n) effect_of effects i d h all
 
 -- what stands at a place that a list has does not depend on the default
@@ -189,12 +189,12 @@ get_d_any (x ∷ xs) zero d e h = refl
 get_d_any (x ∷ xs) (suc i) d e h = get_d_any xs i d e (omega arith)
 
 -- the masks of the first effects are right
-abbrev pub MaskedFirst : ℕ → ℕ → List code-effect.Effect → List ℕ → Type 0
+abbrev pub MaskedFirst : ℕ → ℕ → List code_effect.Effect → List ℕ → Type 0
 MaskedFirst many k effects masks =
-    (i : ℕ) (d : code-effect.Effect) → i < many → i < length effects → (n : ℕ) (w : World n) (b : ℕ) → b < 64 → number n w ≡ 64 * k + b →
+    (i : ℕ) (d : code_effect.Effect) → i < many → i < length effects → (n : ℕ) (w : World n) (b : ℕ) → b < 64 → number n w ≡ 64 * k + b →
     bit (get_or masks i 0) b ≡ meets n w (listed (get_or effects i d).conditions)
 
-pub masked_more : (k i v : ℕ) (effects : List code-effect.Effect) (masks : List ℕ) (e : code-effect.Effect) → i < length masks → MaskedFirst i k effects masks → ((n : ℕ) (w : World n) (b : ℕ) → b < 64 → number n w ≡ 64 * k + b → bit v b ≡ meets n w (listed (get_or effects i e).conditions)) → MaskedFirst (i + 1) k effects (set masks i v)
+pub masked_more : (k i v : ℕ) (effects : List code_effect.Effect) (masks : List ℕ) (e : code_effect.Effect) → i < length masks → MaskedFirst i k effects masks → ((n : ℕ) (w : World n) (b : ℕ) → b < 64 → number n w ≡ 64 * k + b → bit v b ≡ meets n w (listed (get_or effects i e).conditions)) → MaskedFirst (i + 1) k effects (set masks i v)
 masked_more k i v effects masks e room first right j d hj hl n w b hb is =
     elim (cases_eq j i) [
       | inl same ↦
@@ -203,7 +203,7 @@ masked_more k i v effects masks e room first right j d hj hl n w b hb is =
           let met : bit v b ≡ meets n w (listed (get_or effects j e).conditions) =
           subst (λ (q : ℕ). bit v b ≡ meets n w (listed (get_or effects q e).conditions)) (sym same) (right n w b hb is) in
           ap (λ (x : ℕ). bit x b) here ∙ met
-          ∙ ap (λ (x : code-effect.Effect). meets n w (listed x.conditions)) (get_d_any effects j e d hl)
+          ∙ ap (λ (x : code_effect.Effect). meets n w (listed x.conditions)) (get_d_any effects j e d hl)
       | inr other ↦
           ap (λ (x : ℕ). bit x b) (get_or-set_other masks i j v 0 other)
           ∙ first j d (omega arith) hl n w b hb is
@@ -212,35 +212,35 @@ masked_more k i v effects masks e room first right j d hj hl n w b hb is =
 -- ## The effects that the code takes
 
 -- the world that has taken some of an outcome's effects: the rest has yet to take hold
-abbrev TakenRest : ℕ → List code-effect.Effect → List code-effect.Effect → ℕ → Type 0
+abbrev TakenRest : ℕ → List code_effect.Effect → List code_effect.Effect → ℕ → Type 0
 TakenRest world effects rest next =
     (n : ℕ) (w : World n) → n ≤ 10 → every (lawful_effect n) (map effect_of effects) ≡ true → apart n (map effect_of effects) ≡ true → number n w ≡ world →
     (v : World n) × (next ≡ number n v) × (apart n (map effect_of rest) ≡ true) × (later n (map effect_of rest) w v ≡ after n (map effect_of effects) w)
 
 -- the world that has taken the first i effects
-abbrev pub Taken : ℕ → List code-effect.Effect → ℕ → ℕ → Type 0
+abbrev pub Taken : ℕ → List code_effect.Effect → ℕ → ℕ → Type 0
 Taken world effects i next = TakenRest world effects (drop i effects) next
 
 -- whether a world meets the effect at a place
-abbrev MeetsAt : ℕ → List code-effect.Effect → ℕ → code-effect.Effect → Bool → Type 0
+abbrev MeetsAt : ℕ → List code_effect.Effect → ℕ → code_effect.Effect → Bool → Type 0
 MeetsAt world effects i d met = (n : ℕ) (w : World n) → number n w ≡ world → meets n w (listed (get_or effects i d).conditions) ≡ met
 
 -- the masks tell
-pub met_by_mask : (world : ℕ) (effects : List code-effect.Effect) (masks : List ℕ) (i : ℕ) (d : code-effect.Effect) (met : Bool) → i < length effects → Masked (world / 64) effects masks → eqb (bit_and (get_or masks i 0 / 2 ^ (world % 64)) 1) 1 ≡ met → MeetsAt world effects i d met
+pub met_by_mask : (world : ℕ) (effects : List code_effect.Effect) (masks : List ℕ) (i : ℕ) (d : code_effect.Effect) (met : Bool) → i < length effects → Masked (world / 64) effects masks → eqb (bit_and (get_or masks i 0 / 2 ^ (world % 64)) 1) 1 ≡ met → MeetsAt world effects i d met
 met_by_mask world effects masks i d met h right test n w is =
     let split : number n w ≡ 64 * (world / 64) + world % 64 = omega arith in
     sym (right i d h n w (world % 64) (omega arith) split) ∙ sym (shift_test (get_or masks i 0) (world % 64)) ∙ test
 
-pub taken_none : (world : ℕ) (effects : List code-effect.Effect) → Taken world effects 0 world
+pub taken_none : (world : ℕ) (effects : List code_effect.Effect) → Taken world effects 0 world
 taken_none world effects n w small fine clear is = (w, sym is, clear, refl)
 
-rest_skip : (world next : ℕ) (effects rest : List code-effect.Effect) (e : code-effect.Effect) → TakenRest world effects (e ∷ rest) next → ((n : ℕ) (w : World n) → number n w ≡ world → meets n w (listed e.conditions) ≡ false) → TakenRest world effects rest next
+rest_skip : (world next : ℕ) (effects rest : List code_effect.Effect) (e : code_effect.Effect) → TakenRest world effects (e ∷ rest) next → ((n : ℕ) (w : World n) → number n w ≡ world → meets n w (listed e.conditions) ≡ false) → TakenRest world effects rest next
 rest_skip world next effects rest e before unmet n w small fine clear is =
     let was = before n w small fine clear is in
     let parts = and_parts (not (clashes_later n (effect_of e) (map effect_of rest))) (apart n (map effect_of rest)) was.2 in
     (was.0, was.1, parts.1, sym (later_skip n (effect_of e) (map effect_of rest) w was.0 (unmet n w is)) ∙ was.3)
 
-rest_take : (world next new : ℕ) (effects rest : List code-effect.Effect) (e : code-effect.Effect) → TakenRest world effects (e ∷ rest) next → ((n : ℕ) (w : World n) → number n w ≡ world → meets n w (listed e.conditions) ≡ true) → ((n : ℕ) → every (lawful_effect n) (map effect_of effects) ≡ true → speaks_within n e.result ≡ true) → ((n : ℕ) (v : World n) → n ≤ 10 → speaks_within n e.result ≡ true → number n v ≡ next → new ≡ number n (made n e.result v)) → TakenRest world effects rest new
+rest_take : (world next new : ℕ) (effects rest : List code_effect.Effect) (e : code_effect.Effect) → TakenRest world effects (e ∷ rest) next → ((n : ℕ) (w : World n) → number n w ≡ world → meets n w (listed e.conditions) ≡ true) → ((n : ℕ) → every (lawful_effect n) (map effect_of effects) ≡ true → speaks_within n e.result ≡ true) → ((n : ℕ) (v : World n) → n ≤ 10 → speaks_within n e.result ≡ true → number n v ≡ next → new ≡ number n (made n e.result v)) → TakenRest world effects rest new
 rest_take world next new effects rest e before met within change n w small fine clear is =
     let was = before n w small fine clear is in
     let parts = and_parts (not (clashes_later n (effect_of e) (map effect_of rest))) (apart n (map effect_of rest)) was.2 in (
@@ -251,25 +251,25 @@ rest_take world next new effects rest e before met within change n w small fine 
     )
 
 -- the effect at a place stands first in the rest
-taken_first : (world next : ℕ) (effects : List code-effect.Effect) (i : ℕ) (d : code-effect.Effect) → i < length effects → Taken world effects i next → TakenRest world effects (get_or effects i d ∷ drop (suc i) effects) next
+taken_first : (world next : ℕ) (effects : List code_effect.Effect) (i : ℕ) (d : code_effect.Effect) → i < length effects → Taken world effects i next → TakenRest world effects (get_or effects i d ∷ drop (suc i) effects) next
 taken_first world next effects i d h before =
-    subst (λ (rest : List code-effect.Effect). TakenRest world effects rest next) (drop-cons effects i d h) before
+    subst (λ (rest : List code_effect.Effect). TakenRest world effects rest next) (drop-cons effects i d h) before
 
-pub taken_skip : (world next : ℕ) (effects : List code-effect.Effect) (i : ℕ) (d : code-effect.Effect) → i < length effects → Taken world effects i next → MeetsAt world effects i d false → Taken world effects (i + 1) next
+pub taken_skip : (world next : ℕ) (effects : List code_effect.Effect) (i : ℕ) (d : code_effect.Effect) → i < length effects → Taken world effects i next → MeetsAt world effects i d false → Taken world effects (i + 1) next
 taken_skip world next effects i d h before unmet =
     subst (λ (j : ℕ). Taken world effects j next) (sym (add-one i))
     (rest_skip world next effects (drop (suc i) effects) (get_or effects i d) (taken_first world next effects i d h before) unmet)
 
-pub taken_more : (world next new : ℕ) (effects : List code-effect.Effect) (i : ℕ) (d : code-effect.Effect) → i < length effects → Taken world effects i next → MeetsAt world effects i d true → ((n : ℕ) (v : World n) → n ≤ 10 → speaks_within n (get_or effects i d).result ≡ true → number n v ≡ next → new ≡ number n (made n (get_or effects i d).result v)) → Taken world effects (i + 1) new
+pub taken_more : (world next new : ℕ) (effects : List code_effect.Effect) (i : ℕ) (d : code_effect.Effect) → i < length effects → Taken world effects i next → MeetsAt world effects i d true → ((n : ℕ) (v : World n) → n ≤ 10 → speaks_within n (get_or effects i d).result ≡ true → number n v ≡ next → new ≡ number n (made n (get_or effects i d).result v)) → Taken world effects (i + 1) new
 taken_more world next new effects i d h before met change =
     subst (λ (j : ℕ). Taken world effects j new) (sym (add-one i))
     (rest_take world next new effects (drop (suc i) effects) (get_or effects i d) (taken_first world next effects i d h before) met
     (λ n fine. result_within n (effect_of (get_or effects i d)) (effect_at n effects i d h fine)) change)
 
-pub taken_all : (world next : ℕ) (effects : List code-effect.Effect) (i : ℕ) → i ≡ length effects → Taken world effects i next → (n : ℕ) (w : World n) → n ≤ 10 → every (lawful_effect n) (map effect_of effects) ≡ true → apart n (map effect_of effects) ≡ true → number n w ≡ world → next ≡ number n (after n (map effect_of effects) w)
+pub taken_all : (world next : ℕ) (effects : List code_effect.Effect) (i : ℕ) → i ≡ length effects → Taken world effects i next → (n : ℕ) (w : World n) → n ≤ 10 → every (lawful_effect n) (map effect_of effects) ≡ true → apart n (map effect_of effects) ≡ true → number n w ≡ world → next ≡ number n (after n (map effect_of effects) w)
 taken_all world next effects i end all n w small fine clear is =
     let none : drop i effects ≡ [] = ap (λ (j : ℕ). drop j effects) end ∙ drop-length effects in
-    let was = subst (λ (rest : List code-effect.Effect). TakenRest world effects rest next) none all n w small fine clear is in
+    let was = subst (λ (rest : List code_effect.Effect). TakenRest world effects rest next) none all n w small fine clear is in
     was.1 ∙ ap (number n) (sym (later_none n w was.0) ∙ was.3)
 
 -- ## Lawful among ten conditions
@@ -299,7 +299,7 @@ effect_ten n e small fine =
     and_from _ _ (and_from _ _ list.0 (and_from _ _ within lists.1)) (speaks_ten n e.result small parts.1)
 
 -- what a lawful outcome is: few effects, each lawful, none against another
-pub lawful_few : (n : ℕ) (effects : List code-effect.Effect) → lawful_outcome n (map effect_of effects) ≡ true → length effects ≤ 4
+pub lawful_few : (n : ℕ) (effects : List code_effect.Effect) → lawful_outcome n (map effect_of effects) ≡ true → length effects ≤ 4
 lawful_few n effects fine =
     let o : Outcome = map effect_of effects in
     let few : length o ≤ 4 = leb-true (length o) 4 (and_parts (leb (length o) 4) (every (lawful_effect n) o && apart n o) fine).0 in
@@ -427,7 +427,7 @@ puts_word n o row k old mid new before word x =
     ∙ ap (λ (q : ℕ). in_words old x || some_from 0 q test) next
 
 -- what the code says of the world after an outcome, at the world of a number
-pub after_number : (n world next : ℕ) (effects : List code-effect.Effect) → n ≤ 10 → lawful_outcome n (map effect_of effects) ≡ true → world < 2 ^ n → ((m : ℕ) (w : World m) → m ≤ 10 → every (lawful_effect m) (map effect_of effects) ≡ true → apart m (map effect_of effects) ≡ true → number m w ≡ world → next ≡ number m (after m (map effect_of effects) w)) → next ≡ number n (after n (map effect_of effects) (world_of n world))
+pub after_number : (n world next : ℕ) (effects : List code_effect.Effect) → n ≤ 10 → lawful_outcome n (map effect_of effects) ≡ true → world < 2 ^ n → ((m : ℕ) (w : World m) → m ≤ 10 → every (lawful_effect m) (map effect_of effects) ≡ true → apart m (map effect_of effects) ≡ true → number m w ≡ world → next ≡ number m (after m (map effect_of effects) w)) → next ≡ number n (after n (map effect_of effects) (world_of n world))
 after_number n world next effects small fine inside right =
     right n (world_of n world) small (lawful_effects n (map effect_of effects) fine) (lawful_apart n (map effect_of effects) fine) (number_of_world n world inside)
 
@@ -439,11 +439,11 @@ given n [] row x = false
 given n (o ∷ os) row x = some_from 0 1024 (gives n o row x) || given n os row x
 
 -- the row so far has what the outcomes so far give, where the rest is yet to come
-abbrev PutRest : (n : ℕ) → List code-outcome.Outcome → List code-outcome.Outcome → List ℕ → List ℕ → Type 0
+abbrev PutRest : (n : ℕ) → List code_outcome.Outcome → List code_outcome.Outcome → List ℕ → List ℕ → Type 0
 PutRest n outcomes rest row new =
     (x : ℕ) → given n (map outcome_of outcomes) row x ≡ (in_words new x || given n (map outcome_of rest) row x)
 
-abbrev pub PutFirst : (n : ℕ) → List code-outcome.Outcome → ℕ → List ℕ → List ℕ → Type 0
+abbrev pub PutFirst : (n : ℕ) → List code_outcome.Outcome → ℕ → List ℕ → List ℕ → Type 0
 PutFirst n outcomes i row new = PutRest n outcomes (drop i outcomes) row new
 
 -- a row of zeros is empty
@@ -455,27 +455,27 @@ zeros_at (suc m) (suc i) = zeros_at m i
 none_in_zeros : (x : ℕ) → in_words (replicate 16 0) x ≡ false
 none_in_zeros x = ap (λ (word : ℕ). bit word (x % 64)) (zeros_at 16 (x / 64)) ∙ bit_zero (x % 64)
 
-pub given_none : (n : ℕ) (outcomes : List code-outcome.Outcome) (row : List ℕ) → PutFirst n outcomes 0 row (replicate 16 0)
+pub given_none : (n : ℕ) (outcomes : List code_outcome.Outcome) (row : List ℕ) → PutFirst n outcomes 0 row (replicate 16 0)
 given_none n outcomes row x = ap (λ (b : Bool). b || given n (map outcome_of outcomes) row x) (sym (none_in_zeros x))
 
-pub outcome_at : (n : ℕ) (outcomes : List code-outcome.Outcome) (i : ℕ) (d : code-outcome.Outcome) → i < length outcomes → every (lawful_outcome n) (map outcome_of outcomes) ≡ true → lawful_outcome n (outcome_of (get_or outcomes i d)) ≡ true
+pub outcome_at : (n : ℕ) (outcomes : List code_outcome.Outcome) (i : ℕ) (d : code_outcome.Outcome) → i < length outcomes → every (lawful_outcome n) (map outcome_of outcomes) ≡ true → lawful_outcome n (outcome_of (get_or outcomes i d)) ≡ true
 outcome_at n outcomes i d h all = every_at (lawful_outcome n) outcome_of outcomes i d h all
 
-pub given_more : (n : ℕ) (outcomes : List code-outcome.Outcome) (i : ℕ) (d : code-outcome.Outcome) (row mid new : List ℕ) → i < length outcomes → PutFirst n outcomes i row mid → Puts n (outcome_of (get_or outcomes i d)) row 0 1024 mid new → PutFirst n outcomes (i + 1) row new
+pub given_more : (n : ℕ) (outcomes : List code_outcome.Outcome) (i : ℕ) (d : code_outcome.Outcome) (row mid new : List ℕ) → i < length outcomes → PutFirst n outcomes i row mid → Puts n (outcome_of (get_or outcomes i d)) row 0 1024 mid new → PutFirst n outcomes (i + 1) row new
 given_more n outcomes i d row mid new h before put =
     let o : Outcome = outcome_of (get_or outcomes i d) in
-    let rest : List code-outcome.Outcome = drop (suc i) outcomes in
+    let rest : List code_outcome.Outcome = drop (suc i) outcomes in
     let here : PutRest n outcomes (get_or outcomes i d ∷ rest) row mid =
-    subst (λ (os : List code-outcome.Outcome). PutRest n outcomes os row mid) (drop-cons outcomes i d h) before in
+    subst (λ (os : List code_outcome.Outcome). PutRest n outcomes os row mid) (drop-cons outcomes i d h) before in
     let there : PutRest n outcomes rest row new =
     λ x. here x ∙ or_regroups (in_words mid x) (some_from 0 1024 (gives n o row x)) (given n (map outcome_of rest) row x)
     ∙ ap (λ (b : Bool). b || given n (map outcome_of rest) row x) (sym (put x)) in
     subst (λ (j : ℕ). PutFirst n outcomes j row new) (sym (add-one i)) there
 
-pub given_all : (n : ℕ) (outcomes : List code-outcome.Outcome) (i : ℕ) (row new : List ℕ) → i ≡ length outcomes → PutFirst n outcomes i row new → (x : ℕ) → in_words new x ≡ given n (map outcome_of outcomes) row x
+pub given_all : (n : ℕ) (outcomes : List code_outcome.Outcome) (i : ℕ) (row new : List ℕ) → i ≡ length outcomes → PutFirst n outcomes i row new → (x : ℕ) → in_words new x ≡ given n (map outcome_of outcomes) row x
 given_all n outcomes i row new end all x =
     let none : drop i outcomes ≡ [] = ap (λ (j : ℕ). drop j outcomes) end ∙ drop-length outcomes in
-    let was : PutRest n outcomes [] row new = subst (λ (os : List code-outcome.Outcome). PutRest n outcomes os row new) none all in
+    let was : PutRest n outcomes [] row new = subst (λ (os : List code_outcome.Outcome). PutRest n outcomes os row new) none all in
     sym (or_none (in_words new x)) ∙ sym (was x)
 
 -- ## What all outcomes give is the successor

@@ -1,3 +1,5 @@
+#![tactic(auto)]
+
 pub mod map_bank;
 mod places;
 mod rows;

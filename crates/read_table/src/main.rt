@@ -1,5 +1,7 @@
 // A table of files with what Read answers of each. A line of the input is a name, the length of the file, and its bytes
 // in hexadecimal up to the last one that is not zero; a line of the output is the name and the answer.
+#![tactic(auto)]
+
 use anyhow::anyhow;
 use std::alloc::Global;
 use ticket::ticket::Ticket;

@@ -1,3 +1,5 @@
+#![tactic(auto)]
+
 pub mod head;
 pub mod kinds;
 pub mod laws;

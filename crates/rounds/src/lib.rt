@@ -1,3 +1,5 @@
+#![tactic(auto)]
+
 pub mod graph;
 mod rounds;
 pub mod settle;

@@ -1,4 +1,6 @@
 // Prints a ticket file in words, or `ticket R K`: the number of its fault and the record at fault.
+#![tactic(auto)]
+
 mod words;
 
 use anyhow::anyhow;

@@ -1,4 +1,6 @@
 // Tallies: what a procedure costs, step by step.
+#![tactic(auto)]
+
 ghost use Rattle.std.specs.Prelude.{◌≡◌, Bool};
 ghost use Rattle.worlds.specs.Steps.{Step};
 ghost use Rattle.worlds.specs.Meaning.{step_of};

@@ -12,7 +12,7 @@ use Rattle.records.specs.declared.refusal.Refusal.{Refusal}
 use Rattle.records.specs.declared.refusal.Fault.TheVariants.{Opposite}
 use Rattle.records.specs.Layout.{kind, value, below, part}
 use Rattle.worlds.specs.Meaning.{effect_of}
-use Rattle.worlds.specs.declared.step.Effect as code-effect
+use Rattle.worlds.specs.declared.step.Effect as code_effect
 use Rattle.records.specs.Content.{chain, among, literals_from, effect_at}
 use Rattle.ticket.specs.Chains.{Handed}
 use Rattle.records.specs.Conflicts.{conflicts}
@@ -62,7 +62,7 @@ effects_more f n place ks k effects after e h read seven longer =
     }
 
 -- what the effects held so far say of a slice with the same elements
-module _ (f : List ℕ) (n : ℕ) (place : Place) (ks : List ℕ) (xs slice : List code-effect.Effect) (h : HoldsEffects (map effect_of xs) f n place ks) (e : slice ≡ xs) where
+module _ (f : List ℕ) (n : ℕ) (place : Place) (ks : List ℕ) (xs slice : List code_effect.Effect) (h : HoldsEffects (map effect_of xs) f n place ks) (e : slice ≡ xs) where
   pub held_count : length (among f 7 ks) ≡ length slice
   held_count = ap length h.all ∙ sym (length-map ks (effect_at f)) ∙ ap length (sym h.same) ∙ length-map xs effect_of ∙ ap length (sym e)
 

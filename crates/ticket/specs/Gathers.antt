@@ -4,7 +4,7 @@ use Rattle.worlds.specs.Worlds.{Literal, speaks_within}
 use Rattle.worlds.specs.Steps.{Effect, Outcome, Step}
 use Rattle.worlds.specs.Tickets.{lawful_list, lawful_effect, lawful_outcome, lawful_step, clashes, every}
 use Rattle.worlds.specs.Meaning.{effect_of}
-use Rattle.worlds.specs.declared.step.Effect as code-effect
+use Rattle.worlds.specs.declared.step.Effect as code_effect
 use Rattle.records.specs.declared.refusal.Refusal.{Refusal}
 use Rattle.records.specs.Content.{chain, among, literals_among, literals_from, effect_at, outcome_at, literal_at, list_at, step_at}
 use Rattle.records.specs.Judging.{Place, room, under_outcome, under_action, under_sensing, at_top, Judged}
@@ -36,7 +36,7 @@ pub record EffectRead (f : List ℕ) (n : ℕ) (ks : List ℕ) (k : ℕ) (earlie
   pub apart_from : clashes n earlier e ≡ false
   pub room_left : length earlier < 4
 
-abbrev pub ReadsEffect : List ℕ → ℕ → List ℕ → ℕ → Outcome → Result code-effect.Effect Refusal → Type 0
+abbrev pub ReadsEffect : List ℕ → ℕ → List ℕ → ℕ → Outcome → Result code_effect.Effect Refusal → Type 0
 ReadsEffect f n ks k earlier (Ok e) = EffectRead f n ks k earlier (effect_of e)
 ReadsEffect f n ks k earlier (Err r) = (above : ℕ) → Judged f n under_outcome above ks k (Some r)
 

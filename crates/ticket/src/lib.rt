@@ -1,3 +1,5 @@
+#![tactic(auto)]
+
 mod action_draft;
 mod chain_reader;
 mod contents;

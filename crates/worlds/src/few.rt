@@ -1,4 +1,6 @@
-ghost use Rattle.std.specs.Prelude.{◌≤◌};
+ghost use Rattle.std.specs.Prelude.{◌≡◌, ◌≤◌, ⊤};
+
+use std::alloc::AllocError;
 
 mod calls;
 
@@ -7,6 +9,16 @@ pub struct Few<T: Copy, const N: usize> {
     items: [T; N],
     len: usize,
     ghost within: { len ≤ N },
+}
+
+impl<T: Copy, const N: usize> Clone for Few<T, N> {
+    ghost is_clone = { λ x y. y ≡ x };
+
+    ghost is_infallible = { λ _. ⊤ };
+
+    fn clone(&self) -> Result<Self, AllocError> {
+        Ok(*self)
+    }
 }
 
 impl<T: Copy, const N: usize> Copy for Few<T, N> {}

@@ -1,3 +1,5 @@
+#![tactic(auto)]
+
 pub mod few;
 pub mod laws;
 pub mod step;
