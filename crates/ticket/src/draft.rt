@@ -27,7 +27,7 @@ pub(crate) fn gather<D: Draft>(
     first: u16,
 ) -> Result<(), Refusal>
     requires { (inside file.now first ≡ true) × (n ≤ 32) }
-    ensures { (place : Place) → holds draft.old file.now n place [] → Gathered file.now n place first (holds draft.new file.now n place) result }
+    ensures { (place : Place) → D.holds draft.old file.now n place [] → Gathered file.now n place first (D.holds draft.new file.now n place) result }
 {
     let mut chain = ChainReader::new(file, first);
     while let Some(part) = chain.take()? {

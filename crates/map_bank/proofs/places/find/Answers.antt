@@ -9,12 +9,12 @@ loop-i-init c = λ n few tidy tidy-row. sym (zero-add _)
 pub loop-i-preserved : goal.loop-i-preserved
 loop-i-preserved c =
     sought_more c.args.count c.args.words.now c.args.row.now c.requires (λ i. (c.type-inv.words i).fits) c.fits-row c.told-row
-    c.loop-i.i c.row-at.result (omega arith) c.row-at.ensures (λ e. both_ways _ c.if-same-row.false (c.same-row.ensures.1 e)) c.loop-i.invariant
+    c.loop-i.i c.row_at.result (omega arith) c.row_at.ensures (λ e. both_ways _ c.if-same_row.false (c.same_row.ensures.1 e)) c.loop-i.invariant
 
-pub returns-then-same-row : goal.returns-then-same-row
-returns-then-same-row c =
+pub returns-then-same_row : goal.returns-then-same_row
+returns-then-same_row c =
     sought_here c.args.count c.args.words.now c.args.row.now c.requires (λ i. (c.type-inv.words i).fits) c.fits-row c.told-row
-    c.loop-i.i c.row-at.result (omega arith) c.row-at.ensures (c.same-row.ensures.0 c.if-same-row.true) c.loop-i.invariant
+    c.loop-i.i c.row_at.result (omega arith) c.row_at.ensures (c.same_row.ensures.0 c.if-same_row.true) c.loop-i.invariant
 
 pub returns : goal.returns
 returns c =

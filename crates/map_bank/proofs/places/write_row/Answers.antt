@@ -8,5 +8,5 @@ returns c =
     let words = c.args.words.now in
     let from = 16 * c.args.i in
     let row = c.args.row.now in
-    put_mid-paste from (from + 16 - from) words c.copy-from-slice.new.self row 16 c.copy-from-slice.ensures.after (omega arith) (sym c.told-row)
+    put_mid-paste from (from + 16 - from) words c.copy_from_slice.new.self row 16 c.copy_from_slice.ensures.after (omega arith) (sym c.told-row)
     ∙ paste_all words from row 16 (sym c.told-row)

@@ -11,9 +11,9 @@ loop-k-preserved c =
     let row = c.args.row.now in
     let l = c.args.literal in
     let k = c.loop-k.k in
-    let mask = c.side-mask.result in
+    let mask = c.side_mask.result in
     let word : SideWord row l c.args.so k (bit_and (get_or row k 0) mask) =
-    side_word row l c.args.so k mask (simp to_z-of_z at c.side-mask.ensures) in
+    side_word row l c.args.so k mask (simp to_z-of_z at c.side_mask.ensures) in
     simp to_z-of_z
     (words_more (SideWord row l c.args.so) c.loop-k.side k (bit_and (get_or row k 0) mask) (omega arith)
     (simp to_z-of_z at c.loop-k.invariant) word)

@@ -7,11 +7,11 @@ use Rattle.map_bank.proofs.successors.changed.Goals as goal
 pub returns-then-res-gt0 : goal.returns-then-res-gt0
 returns-then-res-gt0 c =
     let f : SFits w16 c.args.res = c.ranges.res in
-    let size : c.unsigned-abs.result ≡ nat_abs c.args.res = simp to_z-of_z at c.unsigned-abs.ensures.value in
-    changed_true c.args.res c.unsigned-abs.result c.args.world (simp to_z-of_z at c.if-res-gt0.true) size
+    let size : c.unsigned_abs.result ≡ nat_abs c.args.res = simp to_z-of_z at c.unsigned_abs.ensures.value in
+    changed_true c.args.res c.unsigned_abs.result c.args.world (simp to_z-of_z at c.if-res-gt0.true) size
 
 pub returns-else-res-gt0 : goal.returns-else-res-gt0
 returns-else-res-gt0 c =
     let f : SFits w16 c.args.res = c.ranges.res in
-    let size : c.unsigned-abs.result ≡ nat_abs c.args.res = simp to_z-of_z at c.unsigned-abs.ensures.value in
-    changed_false c.args.res c.unsigned-abs.result c.args.world (simp to_z-of_z at c.if-res-gt0.false) size
+    let size : c.unsigned_abs.result ≡ nat_abs c.args.res = simp to_z-of_z at c.unsigned_abs.ensures.value in
+    changed_false c.args.res c.unsigned_abs.result c.args.world (simp to_z-of_z at c.if-res-gt0.false) size

@@ -9,11 +9,11 @@ use Rattle.map_bank.proofs.successors.effect_masks.Goals as goal
 pub loop-i-init : goal.loop-i-init
 loop-i-init c = (refl, λ i d h. absurd (omega arith))
 
-pub meet-mask-requires : goal.meet-mask-requires
-meet-mask-requires c =
+pub meet_mask-requires : goal.meet_mask-requires
+meet_mask-requires c =
     let e = get_or c.args.effects.now c.loop-i.i c.index-effects-i.result in
     let fine = conditions_within 10 (effect_of e) (effect_at 10 c.args.effects.now c.loop-i.i c.index-effects-i.result c.loop-i-test.true c.requires.0) in
-    (subst (λ (ls : List Literal). every (speaks_within 10) ls ≡ true) (sym c.as-slice.ensures) fine, c.requires.2)
+    (subst (λ (ls : List Literal). every (speaks_within 10) ls ≡ true) (sym c.as_slice.ensures) fine, c.requires.2)
 
 pub loop-i-preserved : goal.loop-i-preserved
 loop-i-preserved c =
@@ -21,8 +21,8 @@ loop-i-preserved c =
     let few : length c.args.effects.now ≤ 4 = c.requires.1 in
     let room : c.loop-i.i < length c.loop-i.masks = omega arith in (
       simp length-set four,
-      masked_more c.args.k c.loop-i.i c.meet-mask.result c.args.effects.now c.loop-i.masks c.index-effects-i.result room c.loop-i.invariant.1
-          (λ n w b hb is. c.meet-mask.ensures n w b hb is ∙ ap (meets n w) c.as-slice.ensures),
+      masked_more c.args.k c.loop-i.i c.meet_mask.result c.args.effects.now c.loop-i.masks c.index-effects-i.result room c.loop-i.invariant.1
+          (λ n w b hb is. c.meet_mask.ensures n w b hb is ∙ ap (meets n w) c.as_slice.ensures),
     )
 
 pub returns : goal.returns

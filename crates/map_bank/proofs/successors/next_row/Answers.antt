@@ -11,20 +11,20 @@ use Rattle.map_bank.proofs.successors.next_row.Goals as goal
 pub loop-outcome-init : goal.loop-outcome-init
 loop-outcome-init c = given_none c.args.n c.args.outcomes.now c.args.row.now
 
-pub put-outcome-requires : goal.put-outcome-requires
-put-outcome-requires c =
+pub put_outcome-requires : goal.put_outcome-requires
+put_outcome-requires c =
     let fine = outcome_at c.args.n c.args.outcomes.now c.loop-outcome.outcome-index c.outcome-item.result c.loop-outcome-test.true c.requires.1 in
     let item = subst (λ (o : Outcome). lawful_outcome c.args.n (outcome_of o) ≡ true) (sym c.outcome-item.is) fine in
-    (c.requires.0, subst (λ (es : List Effect). lawful_outcome c.args.n (map effect_of es) ≡ true) (sym c.as-slice.ensures) item)
+    (c.requires.0, subst (λ (es : List Effect). lawful_outcome c.args.n (map effect_of es) ≡ true) (sym c.as_slice.ensures) item)
 
 pub loop-outcome-preserved : goal.loop-outcome-preserved
 loop-outcome-preserved c =
     let n = c.args.n in
     let row = c.args.row.now in
     let mid = c.loop-outcome.next in
-    let new = c.put-outcome.new.next in
+    let new = c.put_outcome.new.next in
     let item : Puts n (outcome_of c.outcome-item.result) row 0 1024 mid new =
-    subst (λ (es : List Effect). Puts n (map effect_of es) row 0 1024 mid new) c.as-slice.ensures c.put-outcome.ensures in
+    subst (λ (es : List Effect). Puts n (map effect_of es) row 0 1024 mid new) c.as_slice.ensures c.put_outcome.ensures in
     given_more n c.args.outcomes.now c.loop-outcome.outcome-index c.outcome-item.result row mid new c.loop-outcome-test.true c.loop-outcome.invariant
     (subst (λ (o : Outcome). Puts n (outcome_of o) row 0 1024 mid new) c.outcome-item.is item)
 

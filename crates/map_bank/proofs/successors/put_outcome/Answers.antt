@@ -19,7 +19,7 @@ loop-k-preserved c =
     elim c.if-row-k-ne0.branch [
       | then-row-k-ne0 w ↦
           subst (λ (new : List ℕ). Puts n o row 0 (64 * (k + 1)) old new) (sym w.next-is)
-          (puts_word n o row k old mid w.put-word.new.next c.loop-k.invariant w.put-word.ensures)
+          (puts_word n o row k old mid w.put_word.new.next c.loop-k.invariant w.put_word.ensures)
       | else-row-k-ne0 w ↦
           subst (λ (new : List ℕ). Puts n o row 0 (64 * (k + 1)) old new) (sym w.next-is)
           (puts_word n o row k old mid mid c.loop-k.invariant (puts_empty n o row k mid w.if-row-k-ne0.false))

@@ -11,19 +11,19 @@ use Rattle.map_bank.proofs.SuccessorLaws.{Puts, lawful_ten, lawful_few, after_nu
 use Rattle.map_bank.proofs.successors.put_word.Goals as goal
 use Rattle.map_bank.proofs.successors.put_word.Goals.{then-world-n+then-has, else-world-n, else-world-n-via-then-world-n+else-has, else-world-n-via-else-world-n}
 
-pub effect-masks-masks-requires : goal.effect-masks-masks-requires
-effect-masks-masks-requires c =
+pub effect_masks-masks-requires : goal.effect_masks-masks-requires
+effect_masks-masks-requires c =
     (lawful_ten c.args.n (map effect_of c.args.effects.now) c.requires.0 c.requires.2, lawful_few c.args.n c.args.effects.now c.requires.2, c.requires.1)
 
 pub loop-b-init : goal.loop-b-init
 loop-b-init c = puts_none c.args.n (map effect_of c.args.effects.now) c.args.row.now (64 * c.args.k) c.args.next.now
 
-pub world-after-requires : goal.world-after-requires
-world-after-requires c =
+pub world_after-requires : goal.world_after-requires
+world_after-requires c =
     let word : c.args.k ≡ (64 * c.args.k + c.loop-b.b) / 64 = omega arith in (
       lawful_ten c.args.n (map effect_of c.args.effects.now) c.requires.0 c.requires.2,
       lawful_few c.args.n c.args.effects.now c.requires.2,
-      subst (λ (k : ℕ). Masked k c.args.effects.now c.effect-masks-masks.result) word c.effect-masks-masks.ensures,
+      subst (λ (k : ℕ). Masked k c.args.effects.now c.effect_masks-masks.result) word c.effect_masks-masks.ensures,
     )
 
 pub put-requires : goal.put-requires
@@ -33,7 +33,7 @@ put-requires c =
     let world = 64 * c.args.k + c.loop-b.b in
     let small : n ≤ 10 = c.requires.0 in
     let inside : world < 2 ^ n = subst (λ (x : ℕ). world < x) (one_shl n 64 (omega arith)) c.if-world-n.true in
-    let is = after_number n world c.world-after.result effects small c.requires.2 inside c.world-after.ensures in
+    let is = after_number n world c.world_after.result effects small c.requires.2 inside c.world_after.ensures in
     subst (λ (x : ℕ). x < 1024) (sym is) (number_below n (after n (map effect_of effects) (world_of n world)) small)
 
 pub loop-b-preserved : goal.loop-b-preserved
@@ -51,9 +51,9 @@ loop-b-preserved c =
     elim c.if-world-n.branch [
       | then-world-n+then-has w ↦
           let inside : start + b < 2 ^ n = subst (λ (x : ℕ). start + b < x) limit w.if-world-n.true in
-          let is = after_number n (start + b) w.world-after.result effects small c.requires.2 inside w.world-after.ensures in
+          let is = after_number n (start + b) w.world_after.result effects small c.requires.2 inside w.world_after.ensures in
           subst (λ (new : List ℕ). Puts n o row start (b + 1) old new) (sym w.next-is)
-          (puts_world n o row start b w.world-after.result old mid w.put.new.words c.loop-b.invariant inside (sym w.if-has.ensures) is w.put.ensures)
+          (puts_world n o row start b w.world_after.result old mid w.put.new.words c.loop-b.invariant inside (sym w.if-has.ensures) is w.put.ensures)
       | else-world-n w ↦
           let none : (ltb (start + b) (2 ^ n) && in_words row (start + b)) ≡ false =
           elim w.else-world-n.branch [

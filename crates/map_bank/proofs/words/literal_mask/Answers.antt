@@ -8,8 +8,8 @@ use Rattle.map_bank.proofs.words.literal_mask.Goals as goal
 pub returns-else-literal-gt0 : goal.returns-else-literal-gt0
 returns-else-literal-gt0 c =
     let f : SFits w16 c.args.literal = c.ranges.literal in
-    let size : c.unsigned-abs.result ≡ nat_abs c.args.literal = simp to_z-of_z at c.unsigned-abs.ensures.value in
-    denied_holds c.args.literal c.args.k c.truth-word-truth.result c.requires.0
+    let size : c.unsigned_abs.result ≡ nat_abs c.args.literal = simp to_z-of_z at c.unsigned_abs.ensures.value in
+    denied_holds c.args.literal c.args.k c.truth_word-truth.result c.requires.0
     (simp to_z-of_z at c.if-literal-gt0.false)
-    c.truth-word-truth.type-inv
-    (λ b hb. c.truth-word-truth.ensures b hb ∙ ap (λ (p : ℕ). bit (64 * c.args.k + b) (p - 1)) size)
+    c.truth_word-truth.type-inv
+    (λ b hb. c.truth_word-truth.ensures b hb ∙ ap (λ (p : ℕ). bit (64 * c.args.k + b) (p - 1)) size)

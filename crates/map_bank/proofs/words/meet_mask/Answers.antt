@@ -7,8 +7,8 @@ use Rattle.map_bank.proofs.words.meet_mask.Goals as goal
 pub loop-literal-init : goal.loop-literal-init
 loop-literal-init c = first_none c.args.k c.args.list.now c.requires.0
 
-pub literal-mask-mask-requires : goal.literal-mask-mask-requires
-literal-mask-mask-requires c =
+pub literal_mask-mask-requires : goal.literal_mask-mask-requires
+literal_mask-mask-requires c =
     let fits : SFits w16 (get_or c.args.list.now c.loop-literal.literal-index (pos 0)) = search rules in
     let within = first_within c.loop-literal.mask c.args.k c.args.list.now c.loop-literal.literal-index (omega arith) c.loop-literal.invariant in
     (simp to_z-of_z within, c.requires.1)
@@ -16,8 +16,8 @@ literal-mask-mask-requires c =
 pub loop-literal-preserved : goal.loop-literal-preserved
 loop-literal-preserved c =
     let fits : SFits w16 (get_or c.args.list.now c.loop-literal.literal-index (pos 0)) = search rules in
-    first_more c.loop-literal.mask c.literal-mask-mask.result c.args.k c.args.list.now c.loop-literal.literal-index (omega arith) c.loop-literal.invariant
-    (simp to_z-of_z at c.literal-mask-mask.ensures)
+    first_more c.loop-literal.mask c.literal_mask-mask.result c.args.k c.args.list.now c.loop-literal.literal-index (omega arith) c.loop-literal.invariant
+    (simp to_z-of_z at c.literal_mask-mask.ensures)
 
 pub returns : goal.returns
 returns c = first_all c.loop-literal.mask c.args.k c.args.list.now c.loop-literal.literal-index (omega arith) c.loop-literal.invariant

@@ -5,11 +5,11 @@ use Rattle.worlds.specs.Worlds.{has_literal, opposite, compatible}
 use Rattle.records.proofs.Scans.{some_passes, none_passes, not_both}
 use Rattle.records.proofs.opposites.are_compatible.Goals as goal
 
-pub returns-then-is-opposed : goal.returns-then-is-opposed
-returns-then-is-opposed c =
+pub returns-then-is_opposed : goal.returns-then-is_opposed
+returns-then-is_opposed c =
     let ks = c.args.other.now in
     let e : SFits w16 (get_or c.args.list.now c.loop-l.l-index (pos 0)) = search rules in
-    sym (not-true _ (some_passes (λ l. has_literal (opposite l) ks) (λ ls. not (compatible ls ks)) (λ l ls. not_both (has_literal (opposite l) ks) (compatible ls ks)) c.args.list.now c.loop-l.l-index (pos 0) (omega arith) (ap (λ z. has_literal (opposite z) ks) (sym (to_z-of_z w16 _ e)) ∙ sym c.if-is-opposed.ensures)))
+    sym (not-true _ (some_passes (λ l. has_literal (opposite l) ks) (λ ls. not (compatible ls ks)) (λ l ls. not_both (has_literal (opposite l) ks) (compatible ls ks)) c.args.list.now c.loop-l.l-index (pos 0) (omega arith) (ap (λ z. has_literal (opposite z) ks) (sym (to_z-of_z w16 _ e)) ∙ sym c.if-is_opposed.ensures)))
 
 pub returns : goal.returns
 returns c =

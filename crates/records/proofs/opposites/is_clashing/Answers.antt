@@ -4,10 +4,10 @@ use Rattle.records.specs.Conflicts.{conflict, conflicts}
 use Rattle.records.proofs.Scans.{some_passes, none_passes_at}
 use Rattle.records.proofs.opposites.is_clashing.Goals as goal
 
-pub returns-then-in-conflict : goal.returns-then-in-conflict
-returns-then-in-conflict c =
+pub returns-then-in_conflict : goal.returns-then-in_conflict
+returns-then-in_conflict c =
     let e = effect_of c.args.effect.now in
-    sym (some_passes (λ d. conflict (effect_of d) e) (λ ds. conflicts (map effect_of ds) e) (λ _ _. refl) c.args.earlier.now c.loop-e.e-index c.e-item.result (omega arith) (ap (λ d. conflict (effect_of d) e) (sym c.e-item.is) ∙ sym c.if-in-conflict.ensures))
+    sym (some_passes (λ d. conflict (effect_of d) e) (λ ds. conflicts (map effect_of ds) e) (λ _ _. refl) c.args.earlier.now c.loop-e.e-index c.e-item.result (omega arith) (ap (λ d. conflict (effect_of d) e) (sym c.e-item.is) ∙ sym c.if-in_conflict.ensures))
 
 pub returns : goal.returns
 returns c =

@@ -16,9 +16,9 @@ loop-k-preserved g c =
     let x = c.index-steps-k.result in
     let row = get_or (get_or c.args.moves.now c.args.node []) k Shut in
     let here = step_at_map step_of steps k x c.loop-k-test.true ∙ ap (λ (s : code_step.Step). Some (step_of s)) (sym c.index-steps-k.is) in
-    best_more g.T.Tally.le _ k c.loop-k.best c.by-step-here.result c.keep-better.new.best c.loop-k.invariant
-    (by_step_read g.T.Tally.le g.T.Tally.nothing g.T.Tally.add c.args.totals.now c.args.node k c.move-at.result row (step_of x) (step_at (map step_of steps) k) c.by-step-here.result c.by-step-here.ensures c.move-at.ensures here)
-    c.keep-better.ensures
+    best_more g.T.Tally.le _ k c.loop-k.best c.by_step-here.result c.keep_better.new.best c.loop-k.invariant
+    (by_step_read g.T.Tally.le g.T.Tally.nothing g.T.Tally.add c.args.totals.now c.args.node k c.move_at.result row (step_of x) (step_at (map step_of steps) k) c.by_step-here.result c.by_step-here.ensures c.move_at.ensures here)
+    c.keep_better.ensures
 
 pub returns : goal.returns
 returns g c =

@@ -11,12 +11,12 @@ returns g c =
     let ms = c.args.marks.now in
     let n = nodes_in c.args.moves.now c.args.ends.now ts ms in
     let same : size ≡ n = omega arith in
-    let of-totals : length c.settle-nodes.new.totals ≡ size = omega (arith, length-take size ts) in
-    let of-marks : length c.settle-nodes.new.marks ≡ size = omega (arith, length-take size ms) in
+    let of-totals : length c.settle_nodes.new.totals ≡ size = omega (arith, length-take size ts) in
+    let of-marks : length c.settle_nodes.new.marks ≡ size = omega (arith, length-take size ms) in
     record {
       settled =
-          settled_before_more g.T.Tally.le g.T.Tally.nothing g.T.Tally.add c.args.steps.now c.args.moves.now c.args.ends.now (length c.clear.new.totals) n c.settle-nodes.new.totals (drop size ts) c.settle-nodes.new.marks (drop size ms) c.settle-nodes.result
-          (omega arith) (omega arith) (omega arith) c.settle-nodes.ensures;
-      totals_beyond = drop-append-drop size ts c.settle-nodes.new.totals n (omega arith) of-totals;
-      marks_beyond = drop-append-drop size ms c.settle-nodes.new.marks n (omega arith) of-marks;
+          settled_before_more g.T.Tally.le g.T.Tally.nothing g.T.Tally.add c.args.steps.now c.args.moves.now c.args.ends.now (length c.clear.new.totals) n c.settle_nodes.new.totals (drop size ts) c.settle_nodes.new.marks (drop size ms) c.settle_nodes.result
+          (omega arith) (omega arith) (omega arith) c.settle_nodes.ensures;
+      totals_beyond = drop-append-drop size ts c.settle_nodes.new.totals n (omega arith) of-totals;
+      marks_beyond = drop-append-drop size ms c.settle_nodes.new.marks n (omega arith) of-marks;
     }

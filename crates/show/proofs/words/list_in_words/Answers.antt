@@ -8,5 +8,5 @@ pub returns : goal.returns
 returns c =
     let ls = c.args.list.now in
     let fits : SFits w16 (get_or ls 0 (pos 0)) = search rules in
-    let first = c.in-ok-text.ensures.ok ∙ ap literal_words (to_z-of_z w16 _ fits) in
-    c.in-ok-push-further.ensures ∙ ap (λ w. w ++ further_words (take (length ls - 1) (drop 1 ls))) first ∙ list_whole ls (search rules)
+    let first = c.in_ok-text.ensures.ok ∙ ap literal_words (to_z-of_z w16 _ fits) in
+    c.in_ok-push_further.ensures ∙ ap (λ w. w ++ further_words (take (length ls - 1) (drop 1 ls))) first ∙ list_whole ls (search rules)

@@ -9,9 +9,9 @@ pub loop-literal-preserved : goal.loop-literal-preserved
 loop-literal-preserved c =
     let i = c.loop-literal.literal-index in
     let fits : SFits w16 (get_or c.args.rest.now i (pos 0)) = search rules in
-    let comma = chosen _ _ _ _ c.push-str.ensures.bytes (ap is_ok c.in-ok-push-str.was) in
-    let word = chosen _ _ _ _ c.push-str-in-loop-literal.ensures.bytes (ap is_ok c.in-ok-push-str-2.was) in
-    let one = c.as-str.ensures.value ∙ c.in-ok-one.ensures.ok ∙ ap literal_words (to_z-of_z w16 _ fits) in
+    let comma = chosen _ _ _ _ c.push_str.ensures.bytes (ap is_ok c.in_ok-push_str.was) in
+    let word = chosen _ _ _ _ c.push_str-in-loop-literal.ensures.bytes (ap is_ok c.in_ok-push_str-2.was) in
+    let one = c.as_str.ensures.value ∙ c.in_ok-one.ensures.ok ∙ ap literal_words (to_z-of_z w16 _ fits) in
     let before = string_bytes c.args.text.now in
     let held = further_words (take i c.args.rest.now) in
     word ∙ (λ j. comma j ++ one j) ∙ ap (λ b. (b ++ codes ", ") ++ literal_words (get_or c.args.rest.now i (pos 0))) c.loop-literal.invariant

@@ -5,5 +5,5 @@ use Rattle.ticket.proofs.literal_list.read_list.Goals as goal
 
 pub returns : goal.returns
 returns c =
-    let read = c.in-ok-gather.ensures under_list (record { only = λ _. refl; same = c.none.ensures; lawful = lawful_none _ _ _ c.none.ensures }) in
+    let read = c.in_ok-gather.ensures under_list (record { only = λ _. refl; same = c.none.ensures; lawful = lawful_none _ _ _ c.none.ensures }) in
     (record { same = read.0.same; lawful = read.0.lawful }, read.1)

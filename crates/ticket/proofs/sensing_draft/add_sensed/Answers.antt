@@ -9,19 +9,19 @@ use Rattle.records.specs.Judging.{under_sensing}
 use Rattle.ticket.proofs.Records.{own_broke, own_passed, bare_sound, Passes, nil_from_length}
 use Rattle.ticket.proofs.sensing_draft.add_sensed.Goals as goal
 
-pub returns-in-err-judged : goal.returns-in-err-judged
-returns-in-err-judged c =
-    let p = err_from_is_err_and c.from-residual.result c.from-residual.ensures.1 in
+pub returns-in_err-judged : goal.returns-in_err-judged
+returns-in_err-judged c =
+    let p = err_from_is_err_and c.from_residual.result c.from_residual.ensures.1 in
     rw (p.1, p.2)
     (λ f ks h e same.
     let count = sym (length-map (among f 8 ks) (literal_at f)) ∙ ap length (sym same) ∙ sym c.standing.ensures in
-    own_broke f _ under_sensing ks _ _ h 8 1 _ e refl count refl _ c.in-err-judged.ensures)
+    own_broke f _ under_sensing ks _ _ h 8 1 _ e refl count refl _ c.in_err-judged.ensures)
 
 pub returns : goal.returns
 returns c = λ f ks h e same.
     let n = c.args.n in
     let count = sym (length-map (among f 8 ks) (literal_at f)) ∙ ap length (sym same) ∙ sym c.standing.ensures in
-    let passed = own_passed f _ under_sensing ks _ _ h 8 1 _ e refl count refl _ c.in-ok-judged.ensures in
+    let passed = own_passed f _ under_sensing ks _ _ h 8 1 _ e refl count refl _ c.in_ok-judged.ensures in
     let here = subst (λ b. Passes n 8 1 c.standing.result false b) h.bytes passed.1 in
     let fits : SFits w16 c.value.result = search rules in
     let none : length (among f 8 ks) < 1 = subst (λ m. m < 1) (sym count) (leb-false 1 _ here.space) in

@@ -11,31 +11,31 @@ use Rattle.records.specs.Judging.{at_top, ended}
 use Rattle.ticket.proofs.Records.{own_broke, own_passed, below_broke, below_sound, counted, nil_from_length}
 use Rattle.ticket.proofs.top.add_aim.Goals as goal
 
-pub returns-in-err-judged : goal.returns-in-err-judged
-returns-in-err-judged c =
-    let p = err_from_is_err_and c.from-residual.result c.from-residual.ensures.1 in
+pub returns-in_err-judged : goal.returns-in_err-judged
+returns-in_err-judged c =
+    let p = err_from_is_err_and c.from_residual.result c.from_residual.ensures.1 in
     rw (p.1, p.2)
     (λ ks h e same.
     let f = c.args.file.now in
     let count = counted f 2 ks (list_at f) listed _ same ∙ sym c.standing.ensures in
-    own_broke f _ at_top ks _ _ h 2 1 _ e refl count refl _ c.in-err-judged.ensures)
+    own_broke f _ at_top ks _ _ h 2 1 _ e refl count refl _ c.in_err-judged.ensures)
 
-pub returns-in-err-read-list : goal.returns-in-err-read-list
-returns-in-err-read-list c =
-    let p = err_from_is_err_and c.from-residual-in-err-read-list.result c.from-residual-in-err-read-list.ensures.1 in
+pub returns-in_err-read_list : goal.returns-in_err-read_list
+returns-in_err-read_list c =
+    let p = err_from_is_err_and c.from_residual-in_err-read_list.result c.from_residual-in_err-read_list.ensures.1 in
     rw (p.1, p.2)
     (λ ks h e same.
     let f = c.args.file.now in
     let count = counted f 2 ks (list_at f) listed _ same ∙ sym c.standing.ensures in
-    let passed = own_passed f _ at_top ks _ _ h 2 1 _ e refl count refl _ c.in-ok-judged.ensures in
-    below_broke f _ at_top ks _ _ h 2 1 _ e refl count refl passed.0 _ c.below.ensures _ (c.in-err-read-list.ensures _))
+    let passed = own_passed f _ at_top ks _ _ h 2 1 _ e refl count refl _ c.in_ok-judged.ensures in
+    below_broke f _ at_top ks _ _ h 2 1 _ e refl count refl passed.0 _ c.below.ensures _ (c.in_err-read_list.ensures _))
 
 pub returns : goal.returns
 returns c = λ ks h e same.
     let f = c.args.file.now in
     let count = counted f 2 ks (list_at f) listed _ same ∙ sym c.standing.ensures in
-    let passed = own_passed f _ at_top ks _ _ h 2 1 _ e refl count refl _ c.in-ok-judged.ensures in
-    let read = c.in-ok-read-list.ensures in
+    let passed = own_passed f _ at_top ks _ _ h 2 1 _ e refl count refl _ c.in_ok-judged.ensures in
+    let read = c.in_ok-read_list.ensures in
     let is = read.0.same ∙ ap (literals_from f) (c.below.ensures ∙ ap below h.bytes) in
     let few : length (option_to_list c.args.aim.now) < 1 = subst (λ m. m < 1) c.standing.ensures (leb-false 1 _ passed.1.space) in
     record {

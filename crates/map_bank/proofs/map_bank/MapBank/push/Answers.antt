@@ -26,12 +26,12 @@ rows_after b row lent written long is same-long made =
     made ∙ ap (λ (words : List ℕ). take (16 * b.count) words ++ (row ++ drop (16 * b.count + 16) words)) is in
     ap (rows_of (b.count + 1)) (with_items_is b.words written same-long) ∙ rows_written b.count items row written long room here
 
-pub invariant-of-self : goal.invariant-of-self
-invariant-of-self c =
+pub invariant_of-self : goal.invariant_of-self
+invariant_of-self c =
     let self = c.args.self.now in
     let n = (ticket_of self.ticket).conditions in
     let row = c.args.row.now in
-    let rows = rows_after self row _ c.write-row.new.words c.told-row c.as-mut-slice.ensures.value (omega arith) c.write-row.ensures in
+    let rows = rows_after self row _ c.write_row.new.words c.told-row c.as_mut_slice.ensures.value (omega arith) c.write_row.ensures in
     let held = map (set_of n) (rows_in self) in
     let new : length held ≤ place_of n held (set_of n row) = subst (λ (k : ℕ). k ≤ place_of n held (set_of n row)) (sym (length-map (rows_in self) (set_of n) ∙ length_rows self.count (vec_items self.words))) c.requires.new in (
       omega (arith, c.requires.room),
@@ -55,6 +55,6 @@ pub returns : goal.returns
 returns c =
     let self = c.args.self.now in
     let row = c.args.row.now in
-    let rows = rows_after self row _ c.write-row.new.words c.told-row c.as-mut-slice.ensures.value (omega arith) c.write-row.ensures in
+    let rows = rows_after self row _ c.write_row.new.words c.told-row c.as_mut_slice.ensures.value (omega arith) c.write_row.ensures in
     let cap = capacity_of (vec_len self.words) in
     ap (λ (all : List (List ℕ)). meaning_with (ticket_of self.ticket) all cap) rows ∙ one_more (ticket_of self.ticket) (rows_in self) cap row

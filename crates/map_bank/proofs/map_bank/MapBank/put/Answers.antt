@@ -24,7 +24,7 @@ pub returns-then-self-capacity : goal.returns-then-self-capacity
 returns-then-self-capacity c =
     let self = c.args.self.now in
     let row = c.args.row.now in
-    let e = told self row _ _ c.as-slice.ensures.value c.requires.0 c.find-place.ensures in
+    let e = told self row _ _ c.as_slice.ensures.value c.requires.0 c.find-place.ensures in
     let rows = length_rows self.count (vec_items self.words) in
     let cap = capacity_of (vec_len self.words) in
     let p = put_full (ticket_of self.ticket) (rows_in self) cap row (sym e ∙ c.if-place-self.true ∙ sym rows) (subst (λ (k : ℕ). cap ≤ k) (sym rows) (subst (λ (k : ℕ). k ≤ self.count) c.capacity.ensures c.if-self-capacity.true)) in
@@ -34,7 +34,7 @@ pub push-requires : goal.push-requires
 push-requires c =
     let self = c.args.self.now in
     let row = c.args.row.now in
-    let e = told self row _ _ c.as-slice.ensures.value c.requires.0 c.find-place.ensures in
+    let e = told self row _ _ c.as_slice.ensures.value c.requires.0 c.find-place.ensures in
     let below : self.count < capacity_of (vec_len self.words) = subst (λ (k : ℕ). self.count < k) c.capacity.ensures c.if-self-capacity.false in
     record {
       room = omega arith;
@@ -48,7 +48,7 @@ pub returns-else-self-capacity : goal.returns-else-self-capacity
 returns-else-self-capacity c =
     let self = c.args.self.now in
     let row = c.args.row.now in
-    let e = told self row _ _ c.as-slice.ensures.value c.requires.0 c.find-place.ensures in
+    let e = told self row _ _ c.as_slice.ensures.value c.requires.0 c.find-place.ensures in
     let rows = length_rows self.count (vec_items self.words) in
     let cap = capacity_of (vec_len self.words) in
     let p = put_new (ticket_of self.ticket) (rows_in self) cap row (sym e ∙ c.if-place-self.true ∙ sym rows) (subst (λ (k : ℕ). k < cap) (sym rows) (subst (λ (k : ℕ). self.count < k) c.capacity.ensures c.if-self-capacity.false)) in
@@ -58,7 +58,7 @@ pub returns-else-place-self : goal.returns-else-place-self
 returns-else-place-self c =
     let self = c.args.self.now in
     let row = c.args.row.now in
-    let e = told self row _ _ c.as-slice.ensures.value c.requires.0 c.find-place.ensures in
+    let e = told self row _ _ c.as_slice.ensures.value c.requires.0 c.find-place.ensures in
     let rows = length_rows self.count (vec_items self.words) in
     let cap = capacity_of (vec_len self.words) in
     let p = put_held (ticket_of self.ticket) (rows_in self) cap row (λ same. c.if-place-self.false (e ∙ same ∙ rows)) in

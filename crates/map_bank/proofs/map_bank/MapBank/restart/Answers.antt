@@ -13,25 +13,25 @@ use Rattle.map_bank.proofs.map_bank.MapBank.restart.Goals as goal
 pub push-requires : goal.push-requires
 push-requires c =
     let t = ticket_of c.args.ticket.now in
-    let row = c.start-row-row.result in
-    let is = start_set t c.conditions.result _ row c.conditions.ensures c.terms.ensures c.start-row-row.ensures.worlds in
-    let tidy : Tidy t.conditions row = subst (λ (k : ℕ). Tidy k row) c.conditions.ensures c.start-row-row.ensures.tidy in
+    let row = c.start_row-row.result in
+    let is = start_set t c.conditions.result _ row c.conditions.ensures c.terms.ensures c.start_row-row.ensures.worlds in
+    let tidy : Tidy t.conditions row = subst (λ (k : ℕ). Tidy k row) c.conditions.ensures c.start_row-row.ensures.tidy in
     record {
       room = omega (arith, c.requires.1);
       few = omega arith;
-      tidy = subst (λ (u : Ticket). Tidy u.conditions row) (sym c.copy-from.ensures) tidy;
-      some = subst (λ (u : Ticket). none_in u.conditions (set_of u.conditions row) ≡ false) (sym c.copy-from.ensures) (ap (none_in t.conditions) is ∙ starts_some t c.args.ticket.now.lawful);
+      tidy = subst (λ (u : Ticket). Tidy u.conditions row) (sym c.copy_from.ensures) tidy;
+      some = subst (λ (u : Ticket). none_in u.conditions (set_of u.conditions row) ≡ false) (sym c.copy_from.ensures) (ap (none_in t.conditions) is ∙ starts_some t c.args.ticket.now.lawful);
       new = omega arith;
     }
 
 pub returns : goal.returns
 returns c =
     let t = ticket_of c.args.ticket.now in
-    let row = c.start-row-row.result in
-    let is = start_set t c.conditions.result _ row c.conditions.ensures c.terms.ensures c.start-row-row.ensures.worlds in
-    let tidy : Tidy t.conditions row = subst (λ (k : ℕ). Tidy k row) c.conditions.ensures c.start-row-row.ensures.tidy in
+    let row = c.start_row-row.result in
+    let is = start_set t c.conditions.result _ row c.conditions.ensures c.terms.ensures c.start_row-row.ensures.worlds in
+    let tidy : Tidy t.conditions row = subst (λ (k : ℕ). Tidy k row) c.conditions.ensures c.start_row-row.ensures.tidy in
     let long : length row ≡ 16 = search rules in
     let fits : (i : ℕ) → get_or row i 0 < 2 ^ 64 = search rules in
     let cap = capacity_of (vec_len c.args.self.now.words) in
-    c.push.ensures ∙ ap (λ (u : Ticket). meaning_with u (row ∷ []) cap) c.copy-from.ensures
+    c.push.ensures ∙ ap (λ (u : Ticket). meaning_with u (row ∷ []) cap) c.copy_from.ensures
     ∙ founded_is t (means_of c.args.self.now) row is (row_is_of t.conditions row long fits tidy)

@@ -19,17 +19,17 @@ lacking d =
 not_none : (m : ℕ) → eqb m 0 ≡ false → 0 < m
 not_none m e = let ne = eqb-false m 0 e in omega arith
 
-pub returns-then-is-incomplete : goal.returns-then-is-incomplete
-returns-then-is-incomplete c =
-    let read = c.in-ok-gather.ensures at_top (holds_none _ _ _ _ _ c.clear.ensures.0 c.clear.ensures.1 c.clear.ensures.2) in
-    let lacks = lacking c.gather.new.draft ∙ sym c.if-is-incomplete.ensures in
+pub returns-then-is_incomplete : goal.returns-then-is_incomplete
+returns-then-is_incomplete c =
+    let read = c.in_ok-gather.ensures at_top (holds_none _ _ _ _ _ c.clear.ensures.0 c.clear.ensures.1 c.clear.ensures.2) in
+    let lacks = lacking c.gather.new.draft ∙ sym c.if-is_incomplete.ensures in
     read.1 _ _ (ended refl (ap (at_record 0) (sym (top_ends _ _ _ _ _ _ read.0 true lacks))))
 
 pub returns : goal.returns
 returns c =
-    let read = c.in-ok-gather.ensures at_top (holds_none _ _ _ _ _ c.clear.ensures.0 c.clear.ensures.1 c.clear.ensures.2) in
+    let read = c.in_ok-gather.ensures at_top (holds_none _ _ _ _ _ c.clear.ensures.0 c.clear.ensures.1 c.clear.ensures.2) in
     let d = c.gather.new.draft in
-    let has = lacking d ∙ sym c.if-is-incomplete.ensures in
+    let has = lacking d ∙ sym c.if-is_incomplete.ensures in
     let parts = or_parts (eqb (length (terms_of d)) 0) (eqb (length (aims_of d)) 0) has in
     record {
       holds = read.0;

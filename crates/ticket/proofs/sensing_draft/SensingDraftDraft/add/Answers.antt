@@ -10,16 +10,16 @@ use Rattle.ticket.proofs.Records.{wrong_kind, no_room_sensing, literal_added, in
 use Rattle.ticket.proofs.Sensings.{sensed_added}
 use Rattle.ticket.proofs.sensing_draft.SensingDraftDraft.add.Goals as goal
 
-pub returns-in-default : goal.returns-in-default
-returns-in-default c = λ place ks h handed.
+pub returns-in_default : goal.returns-in_default
+returns-in_default c = λ place ks h handed.
     let p = c.args.part in
-    let gone = no_room_sensing (kind p.bytes.now) (λ e. c.in-default.not-Literal p (c.of.ensures ∙ ap (λ d. shown d p) e)) (λ e. c.in-default.not-SensedLiteral p (c.of.ensures ∙ ap (λ d. shown d p) e)) in
+    let gone = no_room_sensing (kind p.bytes.now) (λ e. c.in_default.not-Literal p (c.of.ensures ∙ ap (λ d. shown d p) e)) (λ e. c.in_default.not-SensedLiteral p (c.of.ensures ∙ ap (λ d. shown d p) e)) in
     wrong_kind _ _ place ks _ _ handed (subst (λ q. room q (group (kind p.bytes.now)) ≡ 0) (sym h.where_it_is) gone) _ c.refused.ensures
 
 pub returns-in-Literal : goal.returns-in-Literal
 returns-in-Literal c = λ place ks h handed.
-    let f = c.args.-file.now in
-    literal_added f _ place ks _ 32 _ _ (HoldsSensing (listed c.push-literal.new.list) (option_to_list c.args.self.now.sensed) f c.args.n place) _ c.args.part c.in-Literal.part handed c.in-Literal.ensures (ap (λ q. room q 5) h.where_it_is) h.literals h.lawful c.push-literal.ensures.answer c.push-literal.ensures.items
+    let f = c.args._file.now in
+    literal_added f _ place ks _ 32 _ _ (HoldsSensing (listed c.push_literal.new.list) (option_to_list c.args.self.now.sensed) f c.args.n place) _ c.args.part c.in-Literal.part handed c.in-Literal.ensures (ap (λ q. room q 5) h.where_it_is) h.literals h.lawful c.push_literal.ensures.answer c.push_literal.ensures.items
     (λ longer.
     record {
       where_it_is = h.where_it_is;
@@ -31,7 +31,7 @@ returns-in-Literal c = λ place ks h handed.
 
 pub returns-in-SensedLiteral : goal.returns-in-SensedLiteral
 returns-in-SensedLiteral c = λ place ks h handed.
-    let f = c.args.-file.now in
+    let f = c.args._file.now in
     let i = inner f c.args.part _ handed c.in-SensedLiteral.ensures (lit< tt) in
-    let added = c.add-sensed.ensures f ks i.handed i.kind_there h.same in
-    added_there f _ place ks _ _ (HoldsSensing (listed c.args.self.now.precondition) (option_to_list c.add-sensed.new.sensed) f c.args.n place) _ i.same (sensed_added f _ place ks _ _ _ _ _ h i.kind_here added)
+    let added = c.add_sensed.ensures f ks i.handed i.kind_there h.same in
+    added_there f _ place ks _ _ (HoldsSensing (listed c.args.self.now.precondition) (option_to_list c.add_sensed.new.sensed) f c.args.n place) _ i.same (sensed_added f _ place ks _ _ _ _ _ h i.kind_here added)

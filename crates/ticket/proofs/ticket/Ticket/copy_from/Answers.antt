@@ -5,8 +5,8 @@ use Rattle.ticket.specs.Tickets.{ticket_of}
 use Rattle.ticket.proofs.WholeFile.{lawful_sizes}
 use Rattle.ticket.proofs.ticket.Ticket.copy_from.Goals as goal
 
-pub copy-from-requires : goal.copy-from-requires
-copy-from-requires c =
+pub copy_from-requires : goal.copy_from-requires
+copy_from-requires c =
     let other = c.args.other.now in
     let sizes = lawful_sizes (ticket_of other) other.lawful in (
       subst (λ m. m ≤ 256) (length-map (vec_items other.kept.terms) listed ∙ sym other.kept.terms.ok.0) sizes.0,

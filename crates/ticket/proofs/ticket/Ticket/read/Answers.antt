@@ -10,32 +10,30 @@ use Rattle.ticket.proofs.ticket.Ticket.read.Goals as goal
 
 pub fill-requires : goal.fill-requires
 fill-requires c =
-    let head = c.in-ok-head.ensures in
+    let head = c.in_ok-head.ensures in
     let good = head_good c.args.file.now head.0 in (
       subst (λ k. inside c.args.file.now k ≡ true) (sym head.2) good.top_inside,
       subst (λ n. n ≤ 32) (sym head.1) good.few_conditions,
     )
 
-pub invariant-of-self-2 : goal.invariant-of-self-2
-invariant-of-self-2 c =
-    let head = c.in-ok-head.ensures in
-    let n = c.in-ok-head.head.conditions in (
-      subst (λ d. lawful (ticket_with n d) ≡ true) (sym c.swap.ensures.x-after) (read_lawful _ _ _ _ _ _ head.0 head.1 head.2 c.in-ok-fill.ensures),
-      tt,
-    )
+pub invariant_of-self-2 : goal.invariant_of-self-2
+invariant_of-self-2 c =
+    let head = c.in_ok-head.ensures in
+    let n = c.in_ok-head.head.conditions in
+    record { lawful = subst (λ d. lawful (ticket_with n d) ≡ true) (sym c.swap.ensures.x_after) (read_lawful _ _ _ _ _ _ head.0 head.1 head.2 c.in_ok-fill.ensures) }
 
 pub returns : goal.returns
 returns c =
-    let head = c.in-ok-head.ensures in
-    let n = c.in-ok-head.head.conditions in
-    subst (λ d. Holds c.args.file.now (ticket_with n d)) (sym c.swap.ensures.x-after) (read_holds _ _ _ _ _ _ head.0 head.1 head.2 c.in-ok-fill.ensures)
+    let head = c.in_ok-head.ensures in
+    let n = c.in_ok-head.head.conditions in
+    subst (λ d. Holds c.args.file.now (ticket_with n d)) (sym c.swap.ensures.x_after) (read_holds _ _ _ _ _ _ head.0 head.1 head.2 c.in_ok-fill.ensures)
 
-pub returns-in-err-fill : goal.returns-in-err-fill
-returns-in-err-fill c =
-    let head = c.in-ok-head.ensures in
-    let p = err_from_is_err_and c.from-residual-in-err-fill.result c.from-residual-in-err-fill.ensures.1 in
-    let r = c.in-err-fill.field-0.0 in
+pub returns-in_err-fill : goal.returns-in_err-fill
+returns-in_err-fill c =
+    let head = c.in_ok-head.ensures in
+    let p = err_from_is_err_and c.from_residual-in_err-fill.result c.from_residual-in_err-fill.ensures.1 in
+    let r = c.in_err-fill.field-0.0 in
     rw (p.1, p.2) (
-      (r.fault, refl, inr (head.0, subst (λ m. Judged c.args.file.now m at_top 0 [] (top c.args.file.now) (Some r)) head.1 (subst (λ k. Judged c.args.file.now c.in-ok-head.head.conditions at_top 0 [] k (Some r)) head.2 c.in-err-fill.ensures))),
+      (r.fault, refl, inr (head.0, subst (λ m. Judged c.args.file.now m at_top 0 [] (top c.args.file.now) (Some r)) head.1 (subst (λ k. Judged c.args.file.now c.in_ok-head.head.conditions at_top 0 [] k (Some r)) head.2 c.in_err-fill.ensures))),
       refl,
     )

@@ -9,24 +9,24 @@ use Rattle.map_bank.specs.CallLaws.{row_there, row_absent, holds_no_set, holds_r
 use Rattle.map_bank.specs.TicketLaws.{all_speak_wider}
 use Rattle.map_bank.proofs.map_bank.calls.MapBankBank.holds.Goals as goal
 
-pub returns-in-default : goal.returns-in-default
-returns-in-default c =
+pub returns-in_default : goal.returns-in_default
+returns-in_default c =
     let self = c.args.self.now in
-    holds_no_set (ticket_of self.ticket) (rows_in self) (capacity_of (vec_len self.words)) c.args.set c.args.list.now (row_absent c.args.set (rows_in self) c.in-default.ensures)
+    holds_no_set (ticket_of self.ticket) (rows_in self) (capacity_of (vec_len self.words)) c.args.set c.args.list.now (row_absent c.args.set (rows_in self) c.in_default.ensures)
 
-pub returns-then-not-speak-within : goal.returns-then-not-speak-within
-returns-then-not-speak-within c =
+pub returns-then-not-speak_within : goal.returns-then-not-speak_within
+returns-then-not-speak_within c =
     let self = c.args.self.now in
     let list = c.args.list.now in
     let p = row_there c.args.set (rows_in self) c.in-Some.row c.in-Some.ensures in
-    let so = c.if-not-speak-within.ensures ∙ ap (λ (k : ℕ). every (speaks_within k) list) c.conditions.ensures in
+    let so = c.if-not-speak_within.ensures ∙ ap (λ (k : ℕ). every (speaks_within k) list) c.conditions.ensures in
     holds_refused (ticket_of self.ticket) (rows_in self) (capacity_of (vec_len self.words)) c.args.set list p.0 (sym so)
 
-pub row-meets-requires : goal.row-meets-requires
-row-meets-requires c =
+pub row_meets-requires : goal.row_meets-requires
+row_meets-requires c =
     let self = c.args.self.now in
     let list = c.args.list.now in
-    let so = c.if-not-speak-within.ensures ∙ ap (λ (k : ℕ). every (speaks_within k) list) c.conditions.ensures in
+    let so = c.if-not-speak_within.ensures ∙ ap (λ (k : ℕ). every (speaks_within k) list) c.conditions.ensures in
     all_speak_wider (ticket_of self.ticket).conditions list self.small (sym so)
 
 pub returns : goal.returns
@@ -35,7 +35,7 @@ returns c =
     let n = (ticket_of self.ticket).conditions in
     let list = c.args.list.now in
     let p = row_there c.args.set (rows_in self) c.in-Some.row c.in-Some.ensures in
-    let so = c.if-not-speak-within.ensures ∙ ap (λ (k : ℕ). every (speaks_within k) list) c.conditions.ensures in
+    let so = c.if-not-speak_within.ensures ∙ ap (λ (k : ℕ). every (speaks_within k) list) c.conditions.ensures in
     let tidy = subst (λ (r : List ℕ). Tidy n r) (sym p.1) (each_tidy n (rows_in self) self.tidy c.args.set) in
     ap Ok (c.row_meets.ensures n self.small tidy)
     ∙ holds_told (ticket_of self.ticket) (rows_in self) (capacity_of (vec_len self.words)) c.args.set list c.in-Some.row p.0 p.1 (sym so)

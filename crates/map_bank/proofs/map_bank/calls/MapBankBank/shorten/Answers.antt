@@ -18,8 +18,8 @@ returns-then-self-count c =
     (subst (λ (k : ℕ). k < c.args.count) (sym (length_rows self.count (vec_items self.words))) c.if-self-count.true) in
     record { answer = p.0; after = p.1 }
 
-pub invariant-of-self : goal.invariant-of-self
-invariant-of-self c =
+pub invariant_of-self : goal.invariant_of-self
+invariant_of-self c =
     let self = c.args.self.now in
     let n = (ticket_of self.ticket).conditions in
     let count = c.args.count in
