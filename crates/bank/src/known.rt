@@ -28,7 +28,7 @@ fn contrary(literal: Literal) -> Literal
 
 // What is known of a literal in a set: that it is so in every world, in none, or neither. It refuses what Holds refuses.
 pub fn known_of<B: Bank>(bank: &B, set: usize, literal: Literal) -> Result<Known, BankFault>
-    ensures { result ≡ knows set literal (means bank.now) }
+    ensures { result ≡ knows set literal (B.means bank.now) }
 {
     if bank.holds(set, &[literal])? {
         return Ok(Known::True);

@@ -26,10 +26,9 @@ pub struct Mark {
 }
 
 // A total that a node could be settled at, and how.
+#[derive(Clone, Copy)]
 pub struct Tentative<V: Copy> {
     pub node: usize,
     pub choice: Choice,
     pub total: V,
 }
-
-impl<V: Copy> Copy for Tentative<V> {}
