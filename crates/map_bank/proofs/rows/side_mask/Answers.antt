@@ -9,5 +9,5 @@ use Rattle.map_bank.proofs.rows.side_mask.Goals as goal
 pub returns-else-so : goal.returns-else-so
 returns-else-so c = λ b hb.
     let f : SFits w16 c.args.literal = c.ranges.literal in
-    denied_side c.args.literal c.args.k c.literal_mask-mask.result c.literal_mask-mask.type-inv (simp to_z-of_z at c.literal_mask-mask.ensures) b hb
+    denied_side c.args.literal c.args.k c.literal_mask-mask.result c.literal_mask-mask.type_inv (simp to_z-of_z at c.literal_mask-mask.ensures) b hb
     ∙ sym (ap (λ (so : Bool). same_value so (number_holds (64 * c.args.k + b) c.args.literal)) c.if-so.false)

@@ -11,5 +11,5 @@ returns-else-literal-gt0 c =
     let size : c.unsigned_abs.result ≡ nat_abs c.args.literal = simp to_z-of_z at c.unsigned_abs.ensures.value in
     denied_holds c.args.literal c.args.k c.truth_word-truth.result c.requires.0
     (simp to_z-of_z at c.if-literal-gt0.false)
-    c.truth_word-truth.type-inv
+    c.truth_word-truth.type_inv
     (λ b hb. c.truth_word-truth.ensures b hb ∙ ap (λ (p : ℕ). bit (64 * c.args.k + b) (p - 1)) size)

@@ -33,23 +33,15 @@ invariant_of-self c =
     let row = c.args.row.now in
     let rows = rows_after self row _ c.write_row.new.words c.told-row c.as_mut_slice.ensures.value (omega arith) c.write_row.ensures in
     let held = map (set_of n) (rows_in self) in
-    let new : length held ≤ place_of n held (set_of n row) = subst (λ (k : ℕ). k ≤ place_of n held (set_of n row)) (sym (length-map (rows_in self) (set_of n) ∙ length_rows self.count (vec_items self.words))) c.requires.new in (
-      omega (arith, c.requires.room),
-      (
-        omega (arith, c.requires.few),
-        (
-          self.small,
-          (
-            subst (λ (all : List (List ℕ)). AllTidy n all) (sym rows) (tidy_longer n (rows_in self) row self.tidy c.requires.tidy),
-            (
-              subst (λ (all : List (List ℕ)). all_different n (map (set_of n) all) ≡ true) (sym rows)
-                  (subst (λ (all : List (Worlds n)). all_different n all ≡ true) (sym (map_push (set_of n) (rows_in self) row)) (different_longer n held (set_of n row) self.different c.requires.some new)),
-              tt,
-            ),
-          ),
-        ),
-      ),
-    )
+    let new : length held ≤ place_of n held (set_of n row) = subst (λ (k : ℕ). k ≤ place_of n held (set_of n row)) (sym (length-map (rows_in self) (set_of n) ∙ length_rows self.count (vec_items self.words))) c.requires.new in
+    record {
+      room = omega (arith, c.requires.room);
+      few = omega (arith, c.requires.few);
+      small = self.small;
+      tidy = subst (λ (all : List (List ℕ)). AllTidy n all) (sym rows) (tidy_longer n (rows_in self) row self.tidy c.requires.tidy);
+      different = subst (λ (all : List (List ℕ)). all_different n (map (set_of n) all) ≡ true) (sym rows)
+          (subst (λ (all : List (Worlds n)). all_different n all ≡ true) (sym (map_push (set_of n) (rows_in self) row)) (different_longer n held (set_of n row) self.different c.requires.some new));
+    }
 
 pub returns : goal.returns
 returns c =

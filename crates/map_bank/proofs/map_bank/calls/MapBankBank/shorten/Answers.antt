@@ -24,23 +24,15 @@ invariant_of-self c =
     let n = (ticket_of self.ticket).conditions in
     let count = c.args.count in
     let fewer : count ≤ self.count = c.if-self-count.false in
-    let left = rows_shorter count self.count (vec_items self.words) fewer in (
-      omega (arith, self.room),
-      (
-        omega (arith, self.few),
-        (
-          self.small,
-          (
-            subst (λ (rows : List (List ℕ)). AllTidy n rows) left (tidy_shorter n count (rows_in self) self.tidy),
-            (
-              subst (λ (rows : List (List ℕ)). all_different n (map (set_of n) rows) ≡ true) left
-                  (subst (λ (held : List (Worlds n)). all_different n held ≡ true) (take-map (set_of n) count (rows_in self)) (different_shorter n count (map (set_of n) (rows_in self)) self.different)),
-              tt,
-            ),
-          ),
-        ),
-      ),
-    )
+    let left = rows_shorter count self.count (vec_items self.words) fewer in
+    record {
+      room = omega (arith, self.room);
+      few = omega (arith, self.few);
+      small = self.small;
+      tidy = subst (λ (rows : List (List ℕ)). AllTidy n rows) left (tidy_shorter n count (rows_in self) self.tidy);
+      different = subst (λ (rows : List (List ℕ)). all_different n (map (set_of n) rows) ≡ true) left
+          (subst (λ (held : List (Worlds n)). all_different n held ≡ true) (take-map (set_of n) count (rows_in self)) (different_shorter n count (map (set_of n) (rows_in self)) self.different));
+    }
 
 pub returns : goal.returns
 returns c =
