@@ -1,12 +1,12 @@
 -- Literals that a bank does not refuse are small.
-use Rattle.std.proofs.Common.{◌≡◌, ℕ, zero, suc, ◌<◌, ◌≤◌, Bool, true, false, not, ◌&&◌, ltb, leb, List, [], ◌∷◌, length, pos, negsuc, Ok, Err, Result, sym, refl, ap, ◌∙◌, subst, arith, w16, SFits}
-use Rattle.std.proofs.lemmas.Bool.{and_parts, leb-true, false≢true, not-false}
+use Rattle.std.proofs.Common.{◌≡◌, ℕ, zero, suc, ◌≤◌, Bool, true, false, not, ◌&&◌, ltb, leb, List, length, pos, negsuc, Ok, Result, refl, arith, w16, SFits}
+use Rattle.std.proofs.lemmas.Bool.{and_parts, leb-true, false≢true}
 use Rattle.worlds.specs.Worlds.{Literal, opposite, speaks_within}
 use Rattle.worlds.specs.Tickets.{Ticket, every, lawful}
 use Rattle.bank.specs.declared.fault.BankFault.{BankFault}
 use Rattle.bank.specs.declared.fault.BankFault.TheVariants.{Conditions, NoSet}
-use Rattle.bank.specs.Meaning.{Meaning, Sound}
-use Rattle.bank.specs.Calls.{holds_answer, holds_fault, unless, refuse_if, then_fault}
+use Rattle.bank.specs.Meaning.{Meaning}
+use Rattle.bank.specs.Calls.{holds_answer, unless, refuse_if, then_fault}
 
 pub few_conditions : (t : Ticket) → lawful t ≡ true → t.conditions ≤ 32
 few_conditions t h = leb-true _ 32 (and_parts (ltb 0 t.conditions) _ (and_parts (ltb 0 t.conditions && leb t.conditions 32) _ h).0).1

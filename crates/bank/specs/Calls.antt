@@ -1,6 +1,6 @@
 -- What each call of a bank answers, and what the bank means afterwards.
-use Rattle.std.specs.Prelude.{ℕ, suc, Bool, true, false, cond, not, ◌&&◌, List, [], ◌∷◌, ◌++◌, length, take, Some, None, Ok, Err, Option, Result, ◌==◌, nat_le, nat_lt, slice_index_or}
-use Rattle.worlds.specs.Worlds.{World, Literal, speaks_within}
+use Rattle.std.specs.Prelude.{ℕ, suc, Bool, false, cond, not, ◌&&◌, List, [], ◌∷◌, ◌++◌, length, take, Some, None, Ok, Err, Option, Result, ◌==◌, nat_le, nat_lt, slice_index_or}
+use Rattle.worlds.specs.Worlds.{Literal, speaks_within}
 use Rattle.worlds.specs.Steps.{Outcome, Step, action, sensing}
 use Rattle.worlds.specs.Sets.{Worlds, none_in, all_meet, successor, side, same_set}
 use Rattle.worlds.specs.Tickets.{Ticket, every, starts, step_at}

@@ -1,5 +1,5 @@
 -- What a bank means.
-use Rattle.std.specs.Prelude.{◌≡◌, ℕ, ◌≤◌, Bool, true, false, cond, not, ◌&&◌, List, [], ◌∷◌, length, get_or}
+use Rattle.std.specs.Prelude.{◌≡◌, ℕ, ◌≤◌, Bool, true, not, ◌&&◌, List, [], ◌∷◌, length}
 use Rattle.worlds.specs.Sets.{Worlds, none_in, same_set}
 use Rattle.worlds.specs.Tickets.{Ticket, lawful}
 

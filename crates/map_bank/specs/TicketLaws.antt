@@ -1,9 +1,9 @@
 -- What a lawful ticket says of its steps and terms, and which sets are not empty.
 -- Assumes nothing.
-use Rattle.std.specs.Prelude.{◌≡◌, ℕ, zero, suc, ◌-◌, ◌<◌, ◌≤◌, Bool, true, false, cond, ◌&&◌, List, [], ◌∷◌, length, pos, negsuc, Some, None, Option, FitsSigned, nat_le, nat_lt, refl}
-use Rattle.std.proofs.Common.{sym, ◌∙◌, subst, inl, inr, arith}
+use Rattle.std.specs.Prelude.{◌≡◌, ℕ, zero, suc, ◌<◌, ◌≤◌, Bool, true, false, ◌&&◌, List, [], ◌∷◌, length, pos, negsuc, Some, None, Option, FitsSigned, nat_le, nat_lt, refl}
+use Rattle.std.proofs.Common.{◌∙◌, subst, arith}
 use Rattle.std.specs.Int.{w16}
-use Rattle.std.proofs.lemmas.Bool.{and_parts, and_from, ltb-true, leb-true, le-leb, or_left, cases_Bool, not-false, not_from_true}
+use Rattle.std.proofs.lemmas.Bool.{and_parts, and_from, ltb-true, leb-true, le-leb, or_left, not-false, not_from_true}
 use Rattle.worlds.specs.Worlds.{World, Literal, meets, speaks_within, consistent, compatible}
 use Rattle.worlds.specs.Steps.{Outcome, Step, action, sensing, after}
 use Rattle.worlds.specs.Sets.{Worlds, none_in, same_value, same_world, may_give, successor}

@@ -1,6 +1,6 @@
 -- A test of each element of a list, in turn, until one passes.
-use Rattle.std.proofs.Common.{◌≡◌, ℕ, zero, suc, ◌<◌, Bool, true, false, not, ◌&&◌, ◌||◌, List, [], ◌∷◌, length, get_or, sym, refl, ap, ◌∙◌, arith}
-use Rattle.std.proofs.lemmas.Bool.{or_left, or_right, or_from, and_left, and_right, and_from, not_from_true, not_from_false}
+use Rattle.std.proofs.Common.{◌≡◌, ℕ, zero, suc, ◌<◌, Bool, true, false, not, ◌&&◌, ◌||◌, List, [], ◌∷◌, length, get_or, refl, ◌∙◌, arith}
+use Rattle.std.proofs.lemmas.Bool.{or_left, or_right, or_from}
 
 -- some element passes
 pub some_passes : {X : Type 0} (p : X → Bool) (any : List X → Bool) → ((x : X) (xs : List X) → any (x ∷ xs) ≡ (p x || any xs)) → (xs : List X) (i : ℕ) (d : X) → i < length xs → p (get_or xs i d) ≡ true → any xs ≡ true

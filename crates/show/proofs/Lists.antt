@@ -1,5 +1,5 @@
 -- The words of a list, one literal at a time.
-use Rattle.std.proofs.Common.{◌≡◌, ℕ, suc, ◌+◌, ◌-◌, ◌<◌, ◌≤◌, List, [], ◌∷◌, ◌++◌, length, get_or, take, drop, pos, codes, sym, refl, ap, ◌∙◌, append_assoc, append-nil, add-one, arith, take_all, take-suc}
+use Rattle.std.proofs.Common.{◌≡◌, ℕ, ◌+◌, ◌-◌, ◌<◌, ◌≤◌, List, [], ◌∷◌, ◌++◌, length, get_or, take, drop, pos, codes, sym, ap, ◌∙◌, append_assoc, append-nil, add-one, arith, take_all, take-suc}
 use Rattle.worlds.specs.Worlds.{Literal}
 use Rattle.show.specs.Words.{literal_words, further_words, list_words}
 

@@ -1,5 +1,5 @@
 -- Literals and lists of literals in words: every sign is a word.
-use Rattle.std.specs.Prelude.{ℕ, suc, List, [], ◌∷◌, ◌++◌, ℤ, pos, negsuc, codes, decimal}
+use Rattle.std.specs.Prelude.{ℕ, suc, List, [], ◌∷◌, ◌++◌, pos, negsuc, codes, decimal}
 use Rattle.worlds.specs.Worlds.{Literal}
 
 abbrev pub literal_words : Literal → List ℕ

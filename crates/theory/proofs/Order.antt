@@ -1,6 +1,6 @@
 -- What follows from the laws of a tally: the larger of two totals, and bounds that are least.
 -- Assumes nothing.
-use Rattle.std.proofs.Common.{◌≡◌, Bool, true, false, ◌⊎◌, Some, None, Option, sym, refl, ap, subst, inl, inr}
+use Rattle.std.proofs.Common.{◌≡◌, Bool, true, ◌⊎◌, Some, None, Option, sym, refl, ap, subst, inl, inr}
 use Rattle.std.proofs.lemmas.Bool.{both_ways, cases_Bool, false≢true, cond_both}
 use Rattle.worlds.specs.Steps.{Step}
 use Rattle.tally.specs.Laws.{Laws}

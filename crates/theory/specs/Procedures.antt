@@ -1,5 +1,5 @@
 -- Procedures, what it is for one to reach the aim surely, and its total.
-use Rattle.std.specs.Prelude.{◌≡◌, ℕ, Bool, true, false, cond, List, [], ◌∷◌, Some, None, Option}
+use Rattle.std.specs.Prelude.{◌≡◌, ℕ, Bool, true, false, cond, Some, None, Option}
 use Rattle.worlds.specs.Worlds.{World, holds, meets, In}
 use Rattle.worlds.specs.Steps.{Outcome, Step, action, sensing, after}
 use Rattle.worlds.specs.Tickets.{Ticket, step_at}

@@ -1,14 +1,13 @@
 -- An effect that was read is the one that its record holds, and its clash with an earlier one is the end of its chain.
-use Rattle.std.proofs.Common.{◌≡◌, ℕ, Bool, true, false, cond, ◌&&◌, leb, List, [], ◌∷◌, ◌++◌, map, length, ℤ, Some, None, Option, sym, refl, ap, ◌∙◌, subst, arith, length-append}
+use Rattle.std.proofs.Common.{◌≡◌, ℕ, Bool, true, false, cond, ◌&&◌, leb, List, [], ◌∷◌, ◌++◌, map, length, ℤ, Some, None, sym, refl, ap, ◌∙◌, subst, arith, length-append}
 use lib.ListN.{length-map}
 use Rattle.std.proofs.lemmas.Bool.{and_parts, and_from, le-leb}
 use Rattle.std.proofs.lemmas.List.{map-append}
 use Rattle.worlds.specs.Worlds.{Literal, speaks_within}
 use Rattle.worlds.specs.Steps.{Effect, Outcome}
-use Rattle.worlds.specs.Tickets.{every, lawful_list, lawful_effect, clashes, apart}
+use Rattle.worlds.specs.Tickets.{every, lawful_effect, clashes, apart}
 use Rattle.worlds.proofs.Compatible.{every_snoc, apart_snoc}
 use Rattle.records.specs.declared.part.Part.{Part}
-use Rattle.records.specs.declared.refusal.Refusal.{Refusal}
 use Rattle.records.specs.declared.refusal.Fault.TheVariants.{Opposite}
 use Rattle.records.specs.Layout.{kind, value, below, part}
 use Rattle.worlds.specs.Meaning.{effect_of}

@@ -1,8 +1,8 @@
 -- From what the code tests of a record to the rules of judging.
-use Rattle.std.proofs.Common.{◌≡◌, ℕ, zero, suc, ◌+◌, ◌*◌, ◌<◌, ◌≤◌, Bool, true, false, cond, not, ◌&&◌, ◌||◌, eqb, ltb, leb, ◌⊎◌, List, [], ◌∷◌, ◌++◌, map, length, ℤ, is_ok, Some, None, Ok, Err, Option, Result, sym, refl, ap, ◌∙◌, subst, inl, inr, append-nil, arith, lit<, length-append}
+use Rattle.std.proofs.Common.{◌≡◌, ℕ, ◌<◌, Bool, true, false, cond, not, ◌&&◌, ◌||◌, eqb, leb, List, [], ◌∷◌, ◌++◌, map, length, ℤ, is_ok, Some, None, Ok, Err, Option, Result, sym, refl, ap, ◌∙◌, subst, append-nil, arith, lit<, length-append}
 use lib.ListN.{length-map}
 use Rattle.std.proofs.lemmas.List.{map-append}
-use Rattle.std.proofs.lemmas.Bool.{cond-true, cond-false, or_parts, or_left, and_parts, and_from, and_left, eqb-true, leb-false, le-leb, not-false, false≢true, true≢false}
+use Rattle.std.proofs.lemmas.Bool.{cond-true, or_parts, and_parts, and_from, and_left, eqb-true, leb-false, le-leb, not-false}
 use Rattle.std.proofs.lemmas.List.Elements.{filter-append}
 use Rattle.std.proofs.lemmas.Bool.Decides.{nat_tests}
 use Rattle.worlds.specs.Worlds.{Literal, opposite, has_literal, speaks_within, consistent}
@@ -13,7 +13,7 @@ use Rattle.records.specs.declared.kinds.Record.{Record}
 use Rattle.records.specs.declared.kinds.Record.TheVariants as shows
 use Rattle.records.specs.declared.refusal.Refusal.{Refusal}
 use Rattle.records.specs.declared.refusal.Fault.{Fault}
-use Rattle.records.specs.declared.refusal.Fault.TheVariants.{Link, Kind, Value, Opposite, Limit, Missing}
+use Rattle.records.specs.declared.refusal.Fault.TheVariants.{Kind, Value, Opposite, Limit}
 use Rattle.records.specs.Kinds.{shown}
 use Rattle.records.specs.Layout.{kind, value, below, part, links_good, group}
 use Rattle.records.specs.Content.{among, literals_among, literal_at}

@@ -1,5 +1,5 @@
 -- The chain under a sensing step.
-use Rattle.std.proofs.Common.{◌≡◌, ℕ, ◌<◌, Bool, true, false, cond, List, [], ◌∷◌, ◌++◌, map, length, Some, None, Ok, Err, Result, sym, refl, ap, ◌∙◌, subst, arith}
+use Rattle.std.proofs.Common.{◌≡◌, ℕ, ◌<◌, true, List, [], ◌∷◌, ◌++◌, map, length, Some, None, Ok, Err, Result, sym, refl, ap, ◌∙◌, subst, arith}
 use lib.ListN.{length-map}
 use Rattle.std.proofs.lemmas.Bool.{lt-ltb, eq-eqb, ne_eqb, cond-true, cond-false, and_from, and_parts}
 use Rattle.worlds.specs.Worlds.{Literal, speaks_within}
@@ -8,7 +8,7 @@ use Rattle.worlds.specs.Tickets.{every}
 use Rattle.records.specs.declared.refusal.Refusal.{Refusal}
 use Rattle.records.specs.declared.refusal.Fault.TheVariants.{Missing}
 use Rattle.records.specs.Layout.{kind, part}
-use Rattle.records.specs.Content.{among, literal_at, literals_among, sensing_from, first_literal}
+use Rattle.records.specs.Content.{among, literal_at, sensing_from, first_literal}
 use Rattle.records.specs.Judging.{Place, Judged, under_sensing, end_fault}
 use Rattle.ticket.specs.Drafts.{Added, Sound}
 use Rattle.ticket.specs.Gathers.{HoldsSensing, AddsSensed, StepRead}

@@ -1,7 +1,6 @@
 -- What it is to gather the records of a chain, one after another.
 use Rattle.std.specs.Prelude.{◌≡◌, ℕ, List, [], ◌∷◌, ◌++◌, Some, None, Ok, Err, Option, Result}
 use Rattle.records.specs.declared.refusal.Refusal.{Refusal}
-use Rattle.records.specs.declared.refusal.Fault.{Fault}
 use Rattle.records.specs.Layout.{part, kind, below}
 use Rattle.records.specs.Content.{chain}
 use Rattle.records.specs.Judging.{Place, Judged, record_fault, under}

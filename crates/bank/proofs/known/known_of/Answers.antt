@@ -1,4 +1,4 @@
-use Rattle.std.proofs.Common.{◌≡◌, true, [], ◌∷◌, sym, refl, ap, ◌∙◌, subst, w16, to_z, of_z}
+use Rattle.std.proofs.Common.{true, [], ◌∷◌, w16, to_z, of_z}
 use Rattle.std.proofs.lemmas.Bool.{and_parts}
 use Rattle.worlds.specs.Worlds.{speaks_within}
 use Rattle.bank.proofs.Limits.{few_conditions, opposite_fits, holds_within}

@@ -1,4 +1,4 @@
-use Rattle.std.proofs.Common.{◌≡◌, not, get_or, pos, sym, refl, ap, ◌∙◌, arith, w16, SFits, rules}
+use Rattle.std.proofs.Common.{not, get_or, pos, sym, refl, ap, ◌∙◌, arith, w16, SFits, rules}
 use Rattle.std.proofs.lemmas.Int.{to_z-of_z}
 use Rattle.std.proofs.lemmas.Bool.{not-true, not-false}
 use Rattle.worlds.specs.Worlds.{has_literal, opposite, compatible}

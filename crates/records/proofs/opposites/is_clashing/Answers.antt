@@ -1,4 +1,4 @@
-use Rattle.std.proofs.Common.{◌≡◌, map, sym, refl, ap, ◌∙◌, arith}
+use Rattle.std.proofs.Common.{map, sym, refl, ap, ◌∙◌, arith}
 use Rattle.worlds.specs.Meaning.{effect_of}
 use Rattle.records.specs.Conflicts.{conflict, conflicts}
 use Rattle.records.proofs.Scans.{some_passes, none_passes_at}

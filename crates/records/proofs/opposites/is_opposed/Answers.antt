@@ -1,4 +1,4 @@
-use Rattle.std.proofs.Common.{◌≡◌, get_or, pos, sym, refl, ap, ◌∙◌, arith, w16, SFits, rules}
+use Rattle.std.proofs.Common.{get_or, pos, sym, refl, arith, w16, SFits, rules}
 use Rattle.std.proofs.lemmas.Int.{to_z-of_z}
 use Rattle.worlds.specs.Worlds.{same_literal, has_literal, opposite}
 use Rattle.records.proofs.Scans.{some_passes, none_passes}

@@ -1,4 +1,4 @@
-use Rattle.std.proofs.Common.{◌≡◌, ◌-◌, ◌++◌, length, get_or, take, drop, pos, sym, refl, ap, ◌∙◌, subst, arith, w16, SFits, rules}
+use Rattle.std.proofs.Common.{◌-◌, ◌++◌, length, get_or, take, drop, pos, ap, ◌∙◌, w16, SFits, rules}
 use Rattle.std.proofs.lemmas.Int.{to_z-of_z}
 use Rattle.show.specs.Words.{literal_words, further_words}
 use Rattle.show.proofs.Lists.{list_whole}

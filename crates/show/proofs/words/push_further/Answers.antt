@@ -1,4 +1,4 @@
-use Rattle.std.proofs.Common.{◌≡◌, ◌++◌, get_or, take, pos, is_ok, string_bytes, codes, sym, refl, ap, ◌∙◌, subst, append_assoc, arith, w16, SFits, rules}
+use Rattle.std.proofs.Common.{◌++◌, get_or, take, pos, is_ok, string_bytes, codes, sym, ap, ◌∙◌, append_assoc, arith, w16, SFits, rules}
 use Rattle.std.proofs.ResultArms.{chosen}
 use Rattle.std.proofs.lemmas.Int.{to_z-of_z}
 use Rattle.show.specs.Words.{literal_words, further_words}

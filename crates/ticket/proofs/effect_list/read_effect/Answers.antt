@@ -1,4 +1,4 @@
-use Rattle.std.proofs.Common.{◌≡◌, true, false, map, Some, sym, refl, ap, ◌∙◌, subst, arith, w16, SFits, rules}
+use Rattle.std.proofs.Common.{true, false, Some, sym, refl, ◌∙◌, subst, w16, SFits, rules}
 use lib.ListN.{length-map}
 use Rattle.std.proofs.lemmas.Result.{err_from_is_err_and}
 use Rattle.std.proofs.lemmas.Int.{to_z-of_z}

@@ -1,4 +1,4 @@
-use Rattle.std.proofs.Common.{◌≡◌, map, sym, refl, ap, ◌∙◌, subst}
+use Rattle.std.proofs.Common.{map, sym, refl, ap, ◌∙◌}
 use Rattle.worlds.specs.Meaning.{effect_of}
 use Rattle.worlds.specs.Tickets.{lawful_outcome}
 use Rattle.records.specs.Content.{effect_at}

@@ -1,9 +1,9 @@
-use Rattle.std.proofs.Common.{◌≡◌, ◌<◌, false, [], ◌∷◌, map, length, sym, refl, ap, ◌∙◌, subst, w16, SFits, rules}
+use Rattle.std.proofs.Common.{◌<◌, false, [], ◌∷◌, length, sym, refl, ap, ◌∙◌, subst, w16, SFits, rules}
 use lib.ListN.{length-map}
 use Rattle.std.proofs.lemmas.Result.{err_from_is_err_and}
 use Rattle.std.proofs.lemmas.Int.{to_z-of_z}
 use Rattle.std.proofs.lemmas.Bool.{leb-false}
-use Rattle.records.specs.Layout.{value, kind, part}
+use Rattle.records.specs.Layout.{value, kind}
 use Rattle.records.specs.Content.{among, literal_at}
 use Rattle.records.specs.Judging.{under_sensing}
 use Rattle.ticket.proofs.Records.{own_broke, own_passed, bare_sound, Passes, nil_from_length}

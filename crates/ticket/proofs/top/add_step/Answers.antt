@@ -1,12 +1,11 @@
-use Rattle.std.proofs.Common.{◌≡◌, ◌<◌, true, false, eqb, [], ◌∷◌, ◌++◌, map, length, vec_items, sym, refl, ap, ◌∙◌, subst, arith, rules}
+use Rattle.std.proofs.Common.{◌≡◌, ◌<◌, true, [], ◌∷◌, ◌++◌, map, length, vec_items, sym, refl, ap, ◌∙◌, subst, rules}
 use lib.ListN.{length-map}
 use Rattle.std.proofs.lemmas.List.{map-append}
 use Rattle.std.proofs.lemmas.Result.{err_from_is_err_and}
-use Rattle.std.proofs.lemmas.Bool.{leb-false, eqb-true}
-use Rattle.std.proofs.lemmas.Bool.Decides.{nat_tests}
+use Rattle.std.proofs.lemmas.Bool.{leb-false}
 use Rattle.worlds.specs.Meaning.{step_of}
 use Rattle.worlds.specs.Tickets.{lawful_step}
-use Rattle.records.specs.Layout.{kind, group}
+use Rattle.records.specs.Layout.{kind}
 use Rattle.records.specs.Content.{among, step_at}
 use Rattle.records.specs.Judging.{at_top, room}
 use Rattle.ticket.proofs.Records.{own_broke, own_passed, below_broke, below_sound, counted, step_group, step_class}

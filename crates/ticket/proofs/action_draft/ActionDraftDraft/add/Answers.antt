@@ -1,4 +1,4 @@
-use Rattle.std.proofs.Common.{◌≡◌, ℕ, List, [], ◌∷◌, ◌++◌, map, sym, refl, ap, ◌∙◌, subst, lit<}
+use Rattle.std.proofs.Common.{◌≡◌, map, sym, refl, ap, ◌∙◌, subst, lit<}
 use Rattle.worlds.specs.Meaning.{listed, outcome_of}
 use Rattle.records.specs.Kinds.{shown}
 use Rattle.records.specs.Layout.{kind, group}

@@ -1,4 +1,4 @@
-use Rattle.std.proofs.Common.{◌≡◌, true, ◌&&◌, sym, refl, ap, ◌∙◌, arith}
+use Rattle.std.proofs.Common.{◌&&◌, sym, refl, ap, ◌∙◌, arith}
 use Rattle.records.specs.Layout.{next, below, leads_on}
 use Rattle.ticket.proofs.chain_reader.ChainReader.take.Goals as goal
 

@@ -1,4 +1,4 @@
-use Rattle.std.proofs.Common.{◌≡◌, ℕ, ◌<◌, cond, ltb, List, [], ◌∷◌, ◌++◌, map, length, Some, sym, refl, ap, ◌∙◌, subst, lit<}
+use Rattle.std.proofs.Common.{◌≡◌, ◌<◌, cond, [], ◌∷◌, ◌++◌, map, length, Some, sym, ap, ◌∙◌, subst, lit<}
 use lib.ListN.{length-map}
 use Rattle.std.proofs.lemmas.List.{map-append}
 use Rattle.std.proofs.lemmas.Result.{err_from_is_err_and}
@@ -6,7 +6,7 @@ use Rattle.std.proofs.lemmas.Bool.{lt-ltb}
 use Rattle.worlds.specs.Meaning.{listed, effect_of}
 use Rattle.records.specs.declared.part.Part.{Part}
 use Rattle.records.specs.Kinds.{shown}
-use Rattle.records.specs.Layout.{kind, group, part}
+use Rattle.records.specs.Layout.{kind, group}
 use Rattle.ticket.specs.Chains.{Handed}
 use Rattle.records.specs.Judging.{room, Judged, under_outcome}
 use Rattle.ticket.specs.Drafts.{Sound}

@@ -1,4 +1,4 @@
-use Rattle.std.proofs.Common.{◌≡◌, List, [], ◌∷◌, ◌++◌, map, sym, refl, ap, ◌∙◌, subst, lit<}
+use Rattle.std.proofs.Common.{◌≡◌, sym, refl, ap, ◌∙◌, subst, lit<}
 use Rattle.std.specs.Option.{option_to_list}
 use Rattle.worlds.specs.Meaning.{listed}
 use Rattle.records.specs.Kinds.{shown}

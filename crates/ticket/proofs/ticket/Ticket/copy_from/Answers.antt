@@ -1,4 +1,4 @@
-use Rattle.std.proofs.Common.{◌≡◌, ◌≤◌, vec_items, sym, ◌∙◌, subst}
+use Rattle.std.proofs.Common.{◌≤◌, vec_items, sym, ◌∙◌, subst}
 use lib.ListN.{length-map}
 use Rattle.worlds.specs.Meaning.{listed, step_of}
 use Rattle.ticket.specs.Tickets.{ticket_of}

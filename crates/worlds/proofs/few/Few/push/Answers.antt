@@ -1,4 +1,4 @@
-use Rattle.std.proofs.Common.{◌≡◌, ◌<◌, ◌≤◌, length, sym, refl, ap, ◌∙◌, add-one, arith, length-take-le, take-suc-set, rules, le-ltb, lt-ltb}
+use Rattle.std.proofs.Common.{◌≡◌, ◌<◌, ◌≤◌, length, ◌∙◌, add-one, arith, length-take-le, take-suc-set, rules}
 use Rattle.worlds.proofs.few.Few.push.Goals as goal
 
 pub returns : goal.returns

@@ -1,4 +1,4 @@
-use Rattle.std.proofs.Common.{◌≡◌, ℕ, eqb, List, map, vec_items, sym, refl, ap, ◌∙◌, subst, lit<}
+use Rattle.std.proofs.Common.{◌≡◌, ℕ, eqb, map, vec_items, sym, ap, ◌∙◌, subst, lit<}
 use Rattle.std.specs.Option.{option_to_list}
 use Rattle.worlds.specs.Meaning.{listed, step_of}
 use Rattle.records.specs.Kinds.{shown}
