@@ -1,4 +1,13 @@
+pub mod Asked
+pub mod BitLaws
+pub mod CallLaws
+pub mod CanonLaws
+pub mod HeldLaws
+pub mod NumberLaws
 pub mod RowLaws
 pub mod SuccessorLaws
+pub mod PlaceLaws
 pub mod StepLaws
+pub mod TicketLaws
+pub mod TruthTable
 pub mod WordLaws

@@ -14,9 +14,9 @@ use Rattle.worlds.proofs.Compatible.{cannot_pass, some_world_from, the_world}
 use Rattle.map_bank.specs.Bits.{bit}
 use Rattle.map_bank.specs.Numbers.{number, world_of, number_holds, in_words, set_of}
 use Rattle.map_bank.specs.Rows.{Tidy}
-use Rattle.map_bank.specs.BitLaws.{bit_of_and, bit_of_or, bit_lowest, bit_above, bit_zero, bit_complement, same_bits}
-use Rattle.map_bank.specs.NumberLaws.{number_lt, number_below, number_of_world, holds_bits}
-use Rattle.map_bank.specs.TruthTableLemmas.{same_value_is}
+use Rattle.map_bank.proofs.BitLaws.{bit_of_and, bit_of_or, bit_lowest, bit_above, bit_zero, bit_complement, same_bits}
+use Rattle.map_bank.proofs.NumberLaws.{number_lt, number_below, number_of_world, holds_bits}
+use Rattle.map_bank.proofs.TruthTable.{same_value_is}
 use Rattle.map_bank.proofs.WordLaws.{or_none, every_from}
 
 -- ## A row made word by word

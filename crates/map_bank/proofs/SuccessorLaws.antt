@@ -21,8 +21,8 @@ use Rattle.worlds.proofs.TakeHold.{brought_by, met_clash, clashes_in}
 use Rattle.map_bank.specs.Bits.{bit}
 use Rattle.map_bank.specs.Numbers.{number, world_of, in_words, set_of}
 use Rattle.map_bank.specs.Successors.{made, Masked, gives, some_from}
-use Rattle.map_bank.specs.BitLaws.{bit_of_and, bit_zero, bit_put, bit_power, bit_complement, same_bits_at, shift_test}
-use Rattle.map_bank.specs.NumberLaws.{number_lt, world_of_number, number_of_world, some_number, number_some, value_bit_suc}
+use Rattle.map_bank.proofs.BitLaws.{bit_of_and, bit_zero, bit_put, bit_power, bit_complement, same_bits_at, shift_test}
+use Rattle.map_bank.proofs.NumberLaws.{number_lt, world_of_number, number_of_world, some_number, number_some, value_bit_suc}
 use Rattle.map_bank.proofs.WordLaws.{or_none}
 
 -- ## Worlds by rules

@@ -10,8 +10,8 @@ use Rattle.worlds.specs.Worlds.{World, Literal, holds, meets, speaks_within}
 use Rattle.worlds.specs.Tickets.{every}
 use Rattle.map_bank.specs.Bits.{bit}
 use Rattle.map_bank.specs.Numbers.{number, number_holds, in_words}
-use Rattle.map_bank.specs.BitLaws.{bit_of_and, bit_zero, bit_put, bit_complement}
-use Rattle.map_bank.specs.NumberLaws.{holds_bits}
+use Rattle.map_bank.proofs.BitLaws.{bit_of_and, bit_zero, bit_put, bit_complement}
+use Rattle.map_bank.proofs.NumberLaws.{holds_bits}
 
 -- ## Truth values
 

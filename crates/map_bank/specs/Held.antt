@@ -1,11 +1,17 @@
 -- Rows that lie one after another in a list of words.
-use Rattle.std.specs.Prelude.{◌≡◌, ℕ, zero, suc, ◌+◌, ◌-◌, ◌^◌, ◌<◌, false, List, [], ◌∷◌, take, drop, slice_index_or}
+use Rattle.std.specs.Prelude.{◌≡◌, ℕ, zero, suc, ◌+◌, ◌-◌, ◌^◌, ◌<◌, false, List, [], ◌∷◌, length, take, drop, slice_index_or}
+use Rattle.std.proofs.Common.{refl, ap}
 use Rattle.map_bank.specs.Numbers.{in_words}
 
 -- the first rows of a list of words: sixteen words each
 abbrev pub rows_of : ℕ → List ℕ → List (List ℕ)
 rows_of zero words = []
 rows_of (suc count) words = take 16 words ∷ rows_of count (drop 16 words)
+
+-- they are as many as are asked for
+pub length_rows : (count : ℕ) (words : List ℕ) → length (rows_of count words) ≡ count
+length_rows zero words = refl
+length_rows (suc count) words = ap suc (length_rows count (drop 16 words))
 
 -- every row is tidy: no bit beyond the worlds of n conditions is one
 abbrev pub AllTidy : ℕ → List (List ℕ) → Type 0

@@ -8,12 +8,3 @@ pub mod Rows
 pub mod Successors
 pub mod StepParts
 pub mod TruthTable
-pub mod Asked
-pub mod CallLaws
-pub mod PlaceLaws
-pub mod BitLaws
-pub mod CanonLaws
-pub mod NumberLaws
-pub mod TruthTableLemmas
-pub mod HeldLaws
-pub mod TicketLaws

@@ -13,12 +13,16 @@ use crate::words::{has, meet_mask, put};
 use worlds::step::{Effect, Literal, Outcome};
 
 // The number of a world with one literal made so.
-fn changed(world: usize, res: Literal) -> usize
-    requires { speaks_within 10 res ≡ true }
-    ensures { (n : ℕ) (w : World n) → n ≤ 10 → speaks_within n res ≡ true → number n w ≡ world → result ≡ number n (made n res w) }
+fn changed(world: usize, literal: Literal) -> usize
+    requires { speaks_within 10 literal ≡ true }
+    ensures { (n : ℕ) (w : World n) → n ≤ 10 → speaks_within n literal ≡ true → number n w ≡ world → result ≡ number n (made n literal w) }
 {
-    let one = 1usize << (res.unsigned_abs() - 1);
-    if res > 0 { world | one } else { world & !one }
+    let one = 1usize << (literal.unsigned_abs() - 1);
+    if literal > 0 {
+        world | one
+    } else {
+        world & !one
+    }
 }
 
 // Of word k, the worlds that meet each effect.

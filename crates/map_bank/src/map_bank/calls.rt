@@ -1,10 +1,10 @@
-ghost use Rattle.map_bank.specs.MapBanks.{means_of, map_nature, rows_in, capacity_of};
-ghost use Rattle.std.proofs.Common.{sym, subst, ◌∙◌, arith};
 ghost use Rattle.std.specs.Prelude.{ℕ, ◌≤◌, vec_len};
+ghost use Rattle.std.proofs.Common.{sym, subst, ◌∙◌, arith};
 ghost use Rattle.std.proofs.lemmas.List.{length-map};
+ghost use Rattle.ticket.specs.Tickets.{ticket_of};
+ghost use Rattle.map_bank.specs.Held.{length_rows};
+ghost use Rattle.map_bank.specs.MapBanks.{means_of, map_nature, rows_in, capacity_of};
 ghost use Rattle.map_bank.specs.Numbers.{set_of};
-ghost use Rattle.map_bank.specs.Asked.{conditions_of};
-ghost use Rattle.map_bank.specs.HeldLaws.{length_rows};
 
 use crate::map_bank::MapBank;
 use crate::rows::{is_empty, row_meets, side_row};
@@ -21,7 +21,7 @@ impl Bank for MapBank {
     ghost nature = { map_nature };
 
     ghost sound = { λ b.
-        let long = length-map (rows_in b) (set_of (conditions_of b)) in
+        let long = length-map (rows_in b) (set_of (ticket_of b.ticket).conditions) in
         let fits : b.count ≤ capacity_of (vec_len b.words) = omega (arith, b.room, b.few) in
         record {
           lawful_ticket = b.ticket.lawful;

@@ -1,6 +1,6 @@
 use Rattle.std.proofs.Common.{sym, zero-add, arith}
 use Rattle.std.proofs.lemmas.Bool.{both_ways}
-use Rattle.map_bank.specs.PlaceLaws.{sought_more, sought_here, sought_end}
+use Rattle.map_bank.proofs.PlaceLaws.{sought_more, sought_here, sought_end}
 use Rattle.map_bank.proofs.places.find.Goals as goal
 
 pub loop-i-init : goal.loop-i-init

@@ -1,4 +1,4 @@
-use Rattle.map_bank.specs.PlaceLaws.{Sought}
+use Rattle.map_bank.proofs.PlaceLaws.{Sought}
 use Rattle.map_bank.proofs.places.find.Given as goal
 
 -- none of the first i rows is the one that is looked for

@@ -6,7 +6,7 @@ use Rattle.worlds.specs.Meaning.{effect_of}
 use Rattle.worlds.specs.Steps.{after}
 use Rattle.map_bank.specs.Numbers.{world_of, in_words}
 use Rattle.map_bank.specs.Successors.{Masked}
-use Rattle.map_bank.specs.NumberLaws.{number_below}
+use Rattle.map_bank.proofs.NumberLaws.{number_below}
 use Rattle.map_bank.proofs.SuccessorLaws.{Puts, lawful_ten, lawful_few, after_number, puts_none, puts_world, puts_not}
 use Rattle.map_bank.proofs.successors.put_word.Goals as goal
 use Rattle.map_bank.proofs.successors.put_word.Goals.{then-world-n+then-has, else-world-n, else-world-n-via-then-world-n+else-has, else-world-n-via-else-world-n}

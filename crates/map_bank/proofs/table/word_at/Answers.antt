@@ -1,6 +1,6 @@
 -- The word at a place has the bits of the rule, since the whole table keeps it.
 use Rattle.std.proofs.Common.{arith}
-use Rattle.map_bank.specs.TruthTableLemmas.{truth_at}
+use Rattle.map_bank.proofs.TruthTable.{truth_at}
 use Rattle.map_bank.proofs.table.word_at.Goals as goal
 
 pub returns : goal.returns

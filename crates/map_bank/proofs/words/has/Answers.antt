@@ -1,6 +1,6 @@
 -- The test that `has` makes is that of the world's bit.
 use Rattle.std.proofs.Common.{◌/◌, ◌%◌, get_or}
-use Rattle.map_bank.specs.BitLaws.{shift_test}
+use Rattle.map_bank.proofs.BitLaws.{shift_test}
 use Rattle.map_bank.proofs.words.has.Goals as goal
 
 pub returns : goal.returns

@@ -8,12 +8,12 @@ use Rattle.ticket.specs.Tickets.{ticket_of}
 use Rattle.bank.specs.Meaning.{all_different}
 use Rattle.bank.specs.Calls.{place_of}
 use Rattle.map_bank.specs.declared.map_bank.MapBank.{MapBank}
-use Rattle.map_bank.specs.Held.{rows_of, AllTidy}
+use Rattle.map_bank.specs.Held.{rows_of, AllTidy, length_rows}
 use Rattle.map_bank.specs.MapBanks.{rows_in, meaning_with, capacity_of}
 use Rattle.map_bank.specs.Numbers.{set_of}
-use Rattle.map_bank.specs.HeldLaws.{length_rows, rows_written}
-use Rattle.map_bank.specs.PlaceLaws.{tidy_longer, different_longer}
-use Rattle.map_bank.specs.CallLaws.{one_more}
+use Rattle.map_bank.proofs.HeldLaws.{rows_written}
+use Rattle.map_bank.proofs.PlaceLaws.{tidy_longer, different_longer}
+use Rattle.map_bank.proofs.CallLaws.{one_more}
 use Rattle.map_bank.proofs.map_bank.MapBank.push.Goals as goal
 
 -- the rows after the write

@@ -2,13 +2,12 @@ use Rattle.std.proofs.Common.{◌≡◌, ℕ, ◌<◌, ◌≤◌, List, [], map,
 use Rattle.ticket.specs.Tickets.{ticket_of}
 use Rattle.bank.specs.Calls.{place_of}
 use Rattle.map_bank.specs.declared.map_bank.MapBank.{MapBank}
-use Rattle.map_bank.specs.Held.{rows_of}
+use Rattle.map_bank.specs.Held.{rows_of, length_rows}
 use Rattle.map_bank.specs.MapBanks.{rows_in, capacity_of}
 use Rattle.map_bank.specs.Numbers.{set_of}
 use Rattle.map_bank.specs.Rows.{Tidy}
-use Rattle.map_bank.specs.HeldLaws.{length_rows}
-use Rattle.map_bank.specs.PlaceLaws.{each_tidy}
-use Rattle.map_bank.specs.CallLaws.{put_full, put_new, put_held}
+use Rattle.map_bank.proofs.PlaceLaws.{each_tidy}
+use Rattle.map_bank.proofs.CallLaws.{put_full, put_new, put_held}
 use Rattle.map_bank.proofs.map_bank.MapBank.put.Goals as goal
 
 -- what `find` tells of the bank's words

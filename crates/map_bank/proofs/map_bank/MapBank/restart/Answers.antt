@@ -5,9 +5,9 @@ use Rattle.ticket.specs.Tickets.{ticket_of}
 use Rattle.map_bank.specs.MapBanks.{means_of, meaning_with, capacity_of}
 use Rattle.map_bank.specs.Numbers.{set_of}
 use Rattle.map_bank.specs.Rows.{Tidy}
-use Rattle.map_bank.specs.CallLaws.{start_set, founded_is}
-use Rattle.map_bank.specs.CanonLaws.{row_is_of}
-use Rattle.map_bank.specs.TicketLaws.{starts_some}
+use Rattle.map_bank.proofs.CallLaws.{start_set, founded_is}
+use Rattle.map_bank.proofs.CanonLaws.{row_is_of}
+use Rattle.map_bank.proofs.TicketLaws.{starts_some}
 use Rattle.map_bank.proofs.map_bank.MapBank.restart.Goals as goal
 
 pub push-requires : goal.push-requires

@@ -1,7 +1,8 @@
 use Rattle.std.proofs.Common.{ℕ, ◌*◌, ◌<◌, ◌≤◌, List, [], take, drop, vec_items, sym, ap, ◌∙◌, subst}
 use Rattle.map_bank.specs.MapBanks.{rows_in}
-use Rattle.map_bank.specs.HeldLaws.{length_rows, row_is}
-use Rattle.map_bank.specs.CallLaws.{kept_there, kept_absent}
+use Rattle.map_bank.proofs.HeldLaws.{row_is}
+use Rattle.map_bank.specs.Held.{length_rows}
+use Rattle.map_bank.proofs.CallLaws.{kept_there, kept_absent}
 use Rattle.map_bank.proofs.map_bank.MapBank.row.Goals as goal
 
 pub returns-then-set-self : goal.returns-then-set-self

@@ -3,7 +3,7 @@ use lib.ListN.{length-map}
 use Rattle.ticket.specs.Tickets.{ticket_of}
 use Rattle.map_bank.specs.MapBanks.{rows_in}
 use Rattle.map_bank.specs.Numbers.{set_of}
-use Rattle.map_bank.specs.HeldLaws.{length_rows}
+use Rattle.map_bank.specs.Held.{length_rows}
 use Rattle.map_bank.proofs.map_bank.calls.MapBankBank.count.Goals as goal
 
 pub returns : goal.returns

@@ -1,7 +1,7 @@
 use Rattle.std.proofs.Common.{◌<◌, ◌≤◌, vec_len, ◌∙◌, arith}
 use Rattle.ticket.specs.Tickets.{ticket_of}
 use Rattle.map_bank.specs.MapBanks.{means_of, capacity_of}
-use Rattle.map_bank.specs.CallLaws.{found_done}
+use Rattle.map_bank.proofs.CallLaws.{found_done}
 use Rattle.map_bank.proofs.map_bank.calls.MapBankBank.found.Goals as goal
 
 pub returns : goal.returns

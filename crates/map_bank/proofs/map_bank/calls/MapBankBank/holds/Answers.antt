@@ -4,9 +4,9 @@ use Rattle.worlds.specs.Tickets.{every}
 use Rattle.ticket.specs.Tickets.{ticket_of}
 use Rattle.map_bank.specs.MapBanks.{rows_in, capacity_of}
 use Rattle.map_bank.specs.Rows.{Tidy}
-use Rattle.map_bank.specs.PlaceLaws.{each_tidy}
-use Rattle.map_bank.specs.CallLaws.{row_there, row_absent, holds_no_set, holds_refused, holds_told}
-use Rattle.map_bank.specs.TicketLaws.{all_speak_wider}
+use Rattle.map_bank.proofs.PlaceLaws.{each_tidy}
+use Rattle.map_bank.proofs.CallLaws.{row_there, row_absent, holds_no_set, holds_refused, holds_told}
+use Rattle.map_bank.proofs.TicketLaws.{all_speak_wider}
 use Rattle.map_bank.proofs.map_bank.calls.MapBankBank.holds.Goals as goal
 
 pub returns-in_default : goal.returns-in_default

@@ -2,9 +2,9 @@ use Rattle.std.proofs.Common.{◌≡◌, ℕ, ◌^◌, ◌<◌, map, length, get
 use Rattle.worlds.specs.Meaning.{listed, outcome_of}
 use Rattle.ticket.specs.Tickets.{ticket_of}
 use Rattle.map_bank.specs.MapBanks.{rows_in, capacity_of}
-use Rattle.map_bank.specs.Asked.{conditions_of, lawful_here, next_made_so}
-use Rattle.map_bank.specs.CallLaws.{row_there, row_absent, next_no_set, next_no_step, next_goes}
-use Rattle.map_bank.specs.CanonLaws.{row_is_of}
+use Rattle.map_bank.proofs.Asked.{conditions_of, lawful_here, next_made_so}
+use Rattle.map_bank.proofs.CallLaws.{row_there, row_absent, next_no_set, next_no_step, next_goes}
+use Rattle.map_bank.proofs.CanonLaws.{row_is_of}
 use Rattle.map_bank.proofs.map_bank.calls.MapBankBank.next.Goals as goal
 
 pub returns-in_default : goal.returns-in_default

@@ -3,12 +3,12 @@ use Rattle.std.proofs.lemmas.List.{take-map}
 use Rattle.worlds.specs.Sets.{Worlds}
 use Rattle.ticket.specs.Tickets.{ticket_of}
 use Rattle.bank.specs.Meaning.{all_different}
-use Rattle.map_bank.specs.Held.{AllTidy}
+use Rattle.map_bank.specs.Held.{AllTidy, length_rows}
 use Rattle.map_bank.specs.MapBanks.{rows_in, meaning_with, capacity_of}
 use Rattle.map_bank.specs.Numbers.{set_of}
-use Rattle.map_bank.specs.HeldLaws.{length_rows, rows_shorter}
-use Rattle.map_bank.specs.PlaceLaws.{tidy_shorter, different_shorter}
-use Rattle.map_bank.specs.CallLaws.{shorten_refused, shorten_done}
+use Rattle.map_bank.proofs.HeldLaws.{rows_shorter}
+use Rattle.map_bank.proofs.PlaceLaws.{tidy_shorter, different_shorter}
+use Rattle.map_bank.proofs.CallLaws.{shorten_refused, shorten_done}
 use Rattle.map_bank.proofs.map_bank.calls.MapBankBank.shorten.Goals as goal
 
 pub returns-then-self-count : goal.returns-then-self-count

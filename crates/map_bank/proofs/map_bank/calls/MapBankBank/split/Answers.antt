@@ -1,9 +1,9 @@
 use Rattle.std.proofs.Common.{◌≡◌, ℕ, ◌^◌, ◌<◌, length, get_or, vec_len, sym, ◌∙◌, rules}
 use Rattle.ticket.specs.Tickets.{ticket_of}
 use Rattle.map_bank.specs.MapBanks.{rows_in, capacity_of}
-use Rattle.map_bank.specs.Asked.{conditions_of, sensed_wide, part_made}
-use Rattle.map_bank.specs.CallLaws.{row_there, row_absent, split_no_set, split_no_step, split_empty, split_goes}
-use Rattle.map_bank.specs.CanonLaws.{row_is_of}
+use Rattle.map_bank.proofs.Asked.{conditions_of, sensed_wide, part_made}
+use Rattle.map_bank.proofs.CallLaws.{row_there, row_absent, split_no_set, split_no_step, split_empty, split_goes}
+use Rattle.map_bank.proofs.CanonLaws.{row_is_of}
 use Rattle.map_bank.proofs.map_bank.calls.MapBankBank.split.Goals as goal
 
 pub returns-in_default : goal.returns-in_default

@@ -8,7 +8,7 @@ use Rattle.worlds.specs.Worlds.{World, value, some_world, Literal, holds, speaks
 use Rattle.worlds.proofs.Compatible.{some_world_from, the_world}
 use Rattle.map_bank.specs.Bits.{bit}
 use Rattle.map_bank.specs.Numbers.{number, world_of, number_holds}
-use Rattle.map_bank.specs.BitLaws.{bit_lowest, bit_above, bit_zero}
+use Rattle.map_bank.proofs.BitLaws.{bit_lowest, bit_above, bit_zero}
 
 -- ## One condition and the rest
 

@@ -9,12 +9,12 @@ use Rattle.worlds.specs.Sets.{Worlds, none_in, same_set, same_value}
 use Rattle.worlds.proofs.Compatible.{the_world, cannot_pass}
 use Rattle.bank.specs.Meaning.{all_different, differs_from}
 use Rattle.bank.specs.Calls.{place_of, set_at}
-use Rattle.map_bank.specs.Held.{rows_of, AllTidy}
+use Rattle.map_bank.specs.Held.{rows_of, AllTidy, length_rows}
 use Rattle.map_bank.specs.Numbers.{set_of, in_words}
 use Rattle.map_bank.specs.Rows.{Tidy}
-use Rattle.map_bank.specs.BitLaws.{bit_zero}
-use Rattle.map_bank.specs.CanonLaws.{rows_same}
-use Rattle.map_bank.specs.HeldLaws.{length_rows, row_is}
+use Rattle.map_bank.proofs.BitLaws.{bit_zero}
+use Rattle.map_bank.proofs.CanonLaws.{rows_same}
+use Rattle.map_bank.proofs.HeldLaws.{row_is}
 
 -- ## Sets
 

@@ -1,13 +1,9 @@
--- Rows that lie one after another: how many they are, where each lies, and what stays where one is added or some are cut.
+-- Rows that lie one after another: where each lies, and what stays where one is added or some are cut.
 -- Assumes nothing.
 use Rattle.std.specs.Prelude.{◌≡◌, ℕ, zero, suc, ◌+◌, ◌*◌, ◌<◌, ◌≤◌, List, [], ◌∷◌, ◌++◌, length, take, drop, slice_index_or, refl}
 use Rattle.std.proofs.Common.{sym, ◌∙◌, ap, subst, append_assoc, zero-add, suc-add, add-one, arith, length-drop, length-take-le, drop-drop}
 use Rattle.std.proofs.lemmas.List.{take_at, drop_at}
 use Rattle.map_bank.specs.Held.{rows_of}
-
-pub length_rows : (count : ℕ) (words : List ℕ) → length (rows_of count words) ≡ count
-length_rows zero words = refl
-length_rows (suc count) words = ap suc (length_rows count (drop 16 words))
 
 -- row i lies from word 16i on
 pub row_is : (count : ℕ) (words : List ℕ) (i : ℕ) (d : List ℕ) → i < count → slice_index_or (rows_of count words) i d ≡ take 16 (drop (16 * i) words)

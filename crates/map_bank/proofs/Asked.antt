@@ -16,9 +16,9 @@ use Rattle.map_bank.specs.declared.map_bank.MapBank.{MapBank}
 use Rattle.map_bank.specs.MapBanks.{rows_in, row_kept, capacity_of}
 use Rattle.map_bank.specs.Numbers.{set_of}
 use Rattle.map_bank.specs.Rows.{Tidy}
-use Rattle.map_bank.specs.CallLaws.{row_there, set_there}
-use Rattle.map_bank.specs.PlaceLaws.{each_tidy, held_some}
-use Rattle.map_bank.specs.TicketLaws.{outcomes_lawful, sensed_lawful, speaks_wider, literal_fits, successor_some}
+use Rattle.map_bank.proofs.CallLaws.{row_there, set_there}
+use Rattle.map_bank.proofs.PlaceLaws.{each_tidy, held_some}
+use Rattle.map_bank.proofs.TicketLaws.{outcomes_lawful, sensed_lawful, speaks_wider, literal_fits, successor_some}
 
 abbrev pub conditions_of : MapBank → ℕ
 conditions_of b = (ticket_of b.ticket).conditions
