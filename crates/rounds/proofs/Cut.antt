@@ -70,32 +70,32 @@ module _ {T : Type 0} {le : T → T → Bool} {nothing : T} {add : Step → T �
   -- each procedure from an unsettled node has such a node
   pub front : BelowAll → g.size ≡ length totals → {i : ℕ} (p : NumberedWay g i) → i < length totals → total_at totals i ≡ None → Front (of_way p)
   front below size (end i ended) h none = front_end i nothing h none ended
-  front below size (by_action i k next x of_steps moves to-node rest) h none =
-      let there : next < length totals = subst (λ (n : ℕ). next < n) size to-node in
+  front below size (by_action i k next x of_steps moves to_node rest) h none =
+      let there : next < length totals = subst (λ (n : ℕ). next < n) size to_node in
       elim (cases_some (total_at totals next)) [
         | inl ahead ↦ front_up (of_way rest) (add x (of_way rest)) (laws.no_less x (of_way rest)) (front below size rest there ahead)
         | inr known ↦
             front_up (add x known.0) (add x (of_way rest)) (laws.monotone x known.0 (of_way rest) (below next known.0 there known.1 rest))
             (front_step i k x known.0 h none of_steps (ap (rest_total le totals) moves ∙ known.1))
       ]
-  front below size (by_sensing i k next other x of_steps moves to-next to-other on-yes on-no) h none =
-      let there : next < length totals = subst (λ (n : ℕ). next < n) size to-next in
-      let also : other < length totals = subst (λ (n : ℕ). other < n) size to-other in
-      let a = of_way on-yes in
-      let b = of_way on-no in
+  front below size (by_sensing i k next other x of_steps moves to_next to_other on_yes on_no) h none =
+      let there : next < length totals = subst (λ (n : ℕ). next < n) size to_next in
+      let also : other < length totals = subst (λ (n : ℕ). other < n) size to_other in
+      let a = of_way on_yes in
+      let b = of_way on_no in
       let rest = larger le a b in
       elim (cases_some (total_at totals next)) [
         | inl ahead ↦
-            front_up a (add x rest) (laws.transitive a rest (add x rest) (larger_left laws a b) (laws.no_less x rest)) (front below size on-yes there ahead)
+            front_up a (add x rest) (laws.transitive a rest (add x rest) (larger_left laws a b) (laws.no_less x rest)) (front below size on_yes there ahead)
         | inr u ↦
             elim (cases_some (total_at totals other)) [
               | inl ahead ↦
-                  front_up b (add x rest) (laws.transitive b rest (add x rest) (larger_right laws a b) (laws.no_less x rest)) (front below size on-no also ahead)
+                  front_up b (add x rest) (laws.transitive b rest (add x rest) (larger_right laws a b) (laws.no_less x rest)) (front below size on_no also ahead)
               | inr v ↦
                   let both-known : rest_total le totals (g.move i k) ≡ Some (larger le u.0 v.0) =
                   ap (rest_total le totals) moves ∙ ap (λ (o : Option T). both le o (total_at totals other)) u.1 ∙ ap (both le (Some u.0)) v.1 in
                   front_up (add x (larger le u.0 v.0)) (add x rest)
-                  (laws.monotone x (larger le u.0 v.0) rest (larger_mono laws u.0 v.0 a b (below next u.0 there u.1 on-yes) (below other v.0 also v.1 on-no)))
+                  (laws.monotone x (larger le u.0 v.0) rest (larger_mono laws u.0 v.0 a b (below next u.0 there u.1 on_yes) (below other v.0 also v.1 on_no)))
                   (front_step i k x (larger le u.0 v.0) h none of_steps both-known)
             ]
       ]

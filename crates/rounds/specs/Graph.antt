@@ -47,6 +47,6 @@ module _ {T : Type 0} (le : T → T → Bool) (nothing : T) (add : Step → T �
   -- its total: nothing where it ends, otherwise the step added to the larger total of what follows
   abbrev pub numbered_total : {g : Graph} {i : ℕ} → NumberedWay g i → T
   numbered_total (end i ended) = nothing
-  numbered_total (by_action i k next x of_steps moves to-node rest) = add x (numbered_total rest)
-  numbered_total (by_sensing i k next other x of_steps moves to-next to-other on-yes on-no) =
-      add x (larger le (numbered_total on-yes) (numbered_total on-no))
+  numbered_total (by_action i k next x of_steps moves to_node rest) = add x (numbered_total rest)
+  numbered_total (by_sensing i k next other x of_steps moves to_next to_other on_yes on_no) =
+      add x (larger le (numbered_total on_yes) (numbered_total on_no))

@@ -53,7 +53,7 @@ module _ {T : Type 0} (le : T → T → Bool) (nothing : T) (add : Step → T �
     pub marked : Marked g totals marks count
 
   -- that this is so of the lists that are left, and that beyond the nodes they are as before
-  pub record Settles (g : Graph) (totals-before : List (Option T)) (marks-before : List Mark) (totals : List (Option T)) (marks : List Mark) (count : ℕ) : Type 0 where
+  pub record Settles (g : Graph) (totals_before : List (Option T)) (marks_before : List Mark) (totals : List (Option T)) (marks : List Mark) (count : ℕ) : Type 0 where
     pub settled : Settled g totals marks count
-    pub totals_beyond : drop g.size totals ≡ drop g.size totals-before
-    pub marks_beyond : drop g.size marks ≡ drop g.size marks-before
+    pub totals_beyond : drop g.size totals ≡ drop g.size totals_before
+    pub marks_beyond : drop g.size marks ≡ drop g.size marks_before

@@ -19,7 +19,7 @@ use Rattle.theory.proofs.Floors.{sure_is_covered, floor_is_not_above_sure}
 no_ceiling : (t : Ticket) (worked : Belief t → Bool) {s : Belief t} → CeilingWay t worked s → worked s ≡ false → aim_set t s ≡ false → ⊥
 no_ceiling t worked (end s ended) unworked no_aim = both_ways _ no_aim ended
 no_ceiling t worked (by_action s k class precondition outcomes was taken rest) unworked no_aim = both_ways _ unworked was
-no_ceiling t worked (by_sensing s k class precondition l was taken on-yes on-no) unworked no_aim = both_ways _ unworked was
+no_ceiling t worked (by_sensing s k class precondition l was taken on_yes on_no) unworked no_aim = both_ways _ unworked was
 
 module _ {T : Type 0} {le : T → T → Bool} {nothing : T} {add : Step → T → T} (laws : Laws le nothing add) where
   -- ## Where floor and ceiling agree, there is no lead
@@ -101,8 +101,8 @@ module _ {T : Type 0} {le : T → T → Bool} {nothing : T} {add : Step → T �
 
   -- each of the two sets that follow a sensing step has one
   ways_sensing : (t : Ticket) (worked : Belief t → Bool) (yes-side no-side : Belief t) → FloorWay t worked yes-side → FloorWay t worked no-side → (f : Belief t) → In f (yes-side ∷ no-side ∷ []) → FloorWay t worked f
-  ways_sensing t worked yes-side no-side on-yes on-no f (inl same) = subst (λ (r : Belief t). FloorWay t worked r) (sym same) on-yes
-  ways_sensing t worked yes-side no-side on-yes on-no f (inr later) = ways_action t worked no-side on-no f later
+  ways_sensing t worked yes-side no-side on_yes on_no f (inl same) = subst (λ (r : Belief t). FloorWay t worked r) (sym same) on_yes
+  ways_sensing t worked yes-side no-side on_yes on_no f (inr later) = ways_action t worked no-side on_no f later
 
   -- where a set has no lead, each procedure for its floor has one for its ceiling with no larger total
   over : (t : Ticket) (worked held : Belief t → Bool) → Closed t worked held → HaveBounds le nothing add t worked held → {s : Belief t} → (p : FloorWay t worked s) → held s ≡ true → Leadless t worked s → Over t worked s (way_total le nothing add p)
@@ -118,19 +118,19 @@ module _ {T : Type 0} {le : T → T → Bool} {nothing : T} {add : Step → T �
             (leadless_next t worked s next k x was apart taken (ways_action t worked next rest) (inl refl) leadless) in
             (by_action s k class precondition outcomes was taken q.0, laws.monotone _ _ _ q.1)
       ]
-  over t worked held closed bounds (by_sensing s k class precondition l was taken on-yes on-no) is_held_lem leadless =
+  over t worked held closed bounds (by_sensing s k class precondition l was taken on_yes on_no) is_held_lem leadless =
       let x = sensing class precondition l in
       let yes-side = side t.conditions l true s in
       let no-side = side t.conditions l false s in
       elim (agreed_or_apart t worked s (bounds s is_held_lem)) [
-        | inl agreed ↦ over_agreed t worked s agreed.0 agreed.1 agreed.2 (by_sensing s k class precondition l was taken on-yes on-no)
+        | inl agreed ↦ over_agreed t worked s agreed.0 agreed.1 agreed.2 (by_sensing s k class precondition l was taken on_yes on_no)
         | inr apart ↦
-            let q = over t worked held closed bounds on-yes
+            let q = over t worked held closed bounds on_yes
             (closed s k x is_held_lem was taken yes-side (inl refl))
-            (leadless_next t worked s yes-side k x was apart taken (ways_sensing t worked yes-side no-side on-yes on-no) (inl refl) leadless) in
-            let r = over t worked held closed bounds on-no
+            (leadless_next t worked s yes-side k x was apart taken (ways_sensing t worked yes-side no-side on_yes on_no) (inl refl) leadless) in
+            let r = over t worked held closed bounds on_no
             (closed s k x is_held_lem was taken no-side (inr (inl refl)))
-            (leadless_next t worked s no-side k x was apart taken (ways_sensing t worked yes-side no-side on-yes on-no) (inr (inl refl)) leadless) in
+            (leadless_next t worked s no-side k x was apart taken (ways_sensing t worked yes-side no-side on_yes on_no) (inr (inl refl)) leadless) in
             (by_sensing s k class precondition l was taken q.0 r.0, laws.monotone _ _ _ (larger_mono laws _ _ _ _ q.1 r.1))
       ]
 

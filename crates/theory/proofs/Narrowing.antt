@@ -14,15 +14,15 @@ module _ {T : Type 0} {le : T → T → Bool} {nothing : T} {add : Step → T �
   -- where more sets are worked and more sets are ends, the same procedure still counts, at the same total
   pub widened : (t : Ticket) (worked more ends further : Belief t → Bool) → ((r : Belief t) → worked r ≡ true → more r ≡ true) → ((r : Belief t) → ends r ≡ true → further r ≡ true) → {s : Belief t} → (p : Way t worked ends s) → (q : Way t more further s) × (way_total le nothing add q ≡ way_total le nothing add p)
   widened t worked more ends further still also (end s ended) = (end s (also s ended), refl)
-  widened t worked more ends further still also (by_action s k class precondition outcomes was-worked taken rest) =
+  widened t worked more ends further still also (by_action s k class precondition outcomes was_worked taken rest) =
       let q = widened t worked more ends further still also rest in (
-        by_action s k class precondition outcomes (still s was-worked) taken q.0,
+        by_action s k class precondition outcomes (still s was_worked) taken q.0,
         ap (add (action class precondition outcomes)) q.1,
       )
-  widened t worked more ends further still also (by_sensing s k class precondition l was-worked taken on-yes on-no) =
-      let q = widened t worked more ends further still also on-yes in
-      let r = widened t worked more ends further still also on-no in (
-        by_sensing s k class precondition l (still s was-worked) taken q.0 r.0,
+  widened t worked more ends further still also (by_sensing s k class precondition l was_worked taken on_yes on_no) =
+      let q = widened t worked more ends further still also on_yes in
+      let r = widened t worked more ends further still also on_no in (
+        by_sensing s k class precondition l (still s was_worked) taken q.0 r.0,
         ap₂ (λ a b. add (sensing class precondition l) (larger le a b)) q.1 r.1,
       )
 
@@ -62,9 +62,9 @@ module _ {T : Type 0} {le : T → T → Bool} {nothing : T} {add : Step → T �
         | inl was ↦ (by_action s k class precondition outcomes was taken q.0, laws.monotone _ _ _ q.1)
         | inr was-not ↦ (end s (or_right (aim_set t s) _ (not_from_false _ was-not)), laws.least _)
       ]
-  cut t worked more still (by_sensing s k class precondition l now-worked taken on-yes on-no) =
-      let q = cut t worked more still on-yes in
-      let r = cut t worked more still on-no in
+  cut t worked more still (by_sensing s k class precondition l now-worked taken on_yes on_no) =
+      let q = cut t worked more still on_yes in
+      let r = cut t worked more still on_no in
       elim (cases_Bool (worked s)) [
         | inl was ↦ (by_sensing s k class precondition l was taken q.0 r.0, laws.monotone _ _ _ (larger_mono laws _ _ _ _ q.1 r.1))
         | inr was-not ↦ (end s (or_right (aim_set t s) _ (not_from_false _ was-not)), laws.least _)

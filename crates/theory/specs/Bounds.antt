@@ -51,8 +51,8 @@ pub data Way (t : Ticket) (worked ends : Belief t → Bool) : Belief t → Type 
 -- the procedure that it is
 abbrev pub as_procedure : {t : Ticket} {worked ends : Belief t → Bool} {s : Belief t} → Way t worked ends s → Procedure
 as_procedure (end s ended) = empty
-as_procedure (by_action s k class precondition outcomes was-worked taken rest) = act k (as_procedure rest)
-as_procedure (by_sensing s k class precondition sensed was-worked taken on-yes on-no) = sense k (as_procedure on-yes) (as_procedure on-no)
+as_procedure (by_action s k class precondition outcomes was_worked taken rest) = act k (as_procedure rest)
+as_procedure (by_sensing s k class precondition sensed was_worked taken on_yes on_no) = sense k (as_procedure on_yes) (as_procedure on_no)
 
 -- for a ceiling a procedure ends in aim sets only
 abbrev pub CeilingWay : (t : Ticket) → (worked : Belief t → Bool) → Belief t → Type 0
@@ -80,9 +80,9 @@ module _ {T : Type 0} (le : T → T → Bool) (nothing : T) (add : Step → T �
   -- follows
   abbrev pub way_total : {t : Ticket} {worked ends : Belief t → Bool} {s : Belief t} → Way t worked ends s → T
   way_total (end s ended) = nothing
-  way_total (by_action s k class precondition outcomes was-worked taken rest) = add (action class precondition outcomes) (way_total rest)
-  way_total (by_sensing s k class precondition sensed was-worked taken on-yes on-no) =
-      add (sensing class precondition sensed) (larger le (way_total on-yes) (way_total on-no))
+  way_total (by_action s k class precondition outcomes was_worked taken rest) = add (action class precondition outcomes) (way_total rest)
+  way_total (by_sensing s k class precondition sensed was_worked taken on_yes on_no) =
+      add (sensing class precondition sensed) (larger le (way_total on_yes) (way_total on_no))
 
   -- that b is the ceiling of a set
   abbrev pub Ceiling : (t : Ticket) → (worked : Belief t → Bool) → Belief t → (b : Option T) → Type 0

@@ -14,7 +14,7 @@ Belief t = Worlds t.conditions
 pub data Procedure : Type 0 where
   empty : Procedure
   act : (step : ℕ) (rest : Procedure) → Procedure
-  sense : (step : ℕ) (on-yes on-no : Procedure) → Procedure
+  sense : (step : ℕ) (on_yes on_no : Procedure) → Procedure
 
 -- ## Reaching the aim surely, world by world
 
@@ -39,7 +39,7 @@ Senses n (Some (sensing class precondition sensed)) w Yes No =
 abbrev pub Sure : (t : Ticket) → Procedure → World t.conditions → Type 0
 Sure t empty w = meets t.conditions w t.aim ≡ true
 Sure t (act k rest) w = Acts t.conditions (step_at t.steps k) w (λ v. Sure t rest v)
-Sure t (sense k on-yes on-no) w = Senses t.conditions (step_at t.steps k) w (Sure t on-yes w) (Sure t on-no w)
+Sure t (sense k on_yes on_no) w = Senses t.conditions (step_at t.steps k) w (Sure t on_yes w) (Sure t on_no w)
 
 -- that it surely reaches the aim from every world of a set
 abbrev pub Surely : (t : Ticket) → Belief t → Procedure → Type 0
@@ -64,17 +64,17 @@ module _ {T : Type 0} (le : T → T → Bool) (nothing : T) (add : Step → T �
   action_total n (Some (sensing class precondition sensed)) s rest = nothing
 
   -- a sensing step added to the larger total of its two branches, each of which starts from its own side
-  abbrev pub sensing_total : (n : ℕ) → Option Step → Worlds n → (on-yes on-no : Worlds n → T) → T
-  sensing_total n None s on-yes on-no = nothing
-  sensing_total n (Some (action class precondition outcomes)) s on-yes on-no = nothing
-  sensing_total n (Some (sensing class precondition sensed)) s on-yes on-no =
+  abbrev pub sensing_total : (n : ℕ) → Option Step → Worlds n → (on_yes on_no : Worlds n → T) → T
+  sensing_total n None s on_yes on_no = nothing
+  sensing_total n (Some (action class precondition outcomes)) s on_yes on_no = nothing
+  sensing_total n (Some (sensing class precondition sensed)) s on_yes on_no =
       add (sensing class precondition sensed)
-      (larger le (branch_total nothing n (side n sensed true s) on-yes) (branch_total nothing n (side n sensed false s) on-no))
+      (larger le (branch_total nothing n (side n sensed true s) on_yes) (branch_total nothing n (side n sensed false s) on_no))
 
   -- the total of a procedure from a set of worlds: nothing if it is empty, otherwise its first step added to the larger
   -- total of what follows; a number that is no such step of the ticket counts nothing
   abbrev pub total : (t : Ticket) → Procedure → Belief t → T
   total t empty s = nothing
   total t (act k rest) s = action_total t.conditions (step_at t.steps k) s (λ r. total t rest r)
-  total t (sense k on-yes on-no) s =
-      sensing_total t.conditions (step_at t.steps k) s (λ r. total t on-yes r) (λ r. total t on-no r)
+  total t (sense k on_yes on_no) s =
+      sensing_total t.conditions (step_at t.steps k) s (λ r. total t on_yes r) (λ r. total t on_no r)
