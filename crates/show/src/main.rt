@@ -6,6 +6,7 @@ mod words;
 use anyhow::anyhow;
 use records::refusal::Refusal;
 use std::alloc::Global;
+use std::process::ExitCode;
 use std::{env, fs};
 use ticket::ticket::Ticket;
 use words::{InWords, list_in_words};
@@ -88,12 +89,13 @@ fn run(rt: &HostRuntime) -> anyhow::Result<()> {
     }
 }
 
-fn main(rt: HostRuntime) -> anyhow::Result<()> {
+// An error is told in one line of its own, and is the exit status 1.
+fn main(rt: HostRuntime) -> anyhow::Result<ExitCode> {
     match run(&rt) {
-        Ok(()) => Ok(()),
+        Ok(()) => Ok(ExitCode::SUCCESS),
         Err(e) => {
             eprintln!(rt; "show: {e}")?;
-            Err(e)
+            Ok(ExitCode::FAILURE)
         }
     }
 }
