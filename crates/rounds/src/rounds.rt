@@ -1,5 +1,5 @@
 // One round of settling: the least tentative total of all nodes that are not settled.
-ghost use Rattle.std.specs.Prelude.{◌≡◌, ◌<◌, false, [], map, length, get_or, if◌then◌else◌, slice_index_or};
+ghost use Rattle.std.specs.Prelude.{◌≡◌, ◌<◌, false, [], map, length, if◌then◌else◌, slice_index_or};
 ghost use Rattle.worlds.specs.Meaning.{step_of};
 ghost use Rattle.theory.specs.Procedures.{larger};
 ghost use Rattle.rounds.specs.declared.graph.Move.TheVariants.{Shut};
@@ -109,7 +109,7 @@ fn best_step<T: Tally>(
     totals: &[Option<T::Total>],
     node: usize,
 ) -> Option<Tentative<T::Total>>
-    ensures { result ≡ best_step T.Tally.le T.Tally.nothing T.Tally.add (map step_of steps.now) totals.now node (λ k. get_or (slice_index_or moves.now node []) k Shut) }
+    ensures { result ≡ best_step T.Tally.le T.Tally.nothing T.Tally.add (map step_of steps.now) totals.now node (λ k. slice_index_or (slice_index_or moves.now node []) k Shut) }
 {
     let mut best = None;
     for k in 0..steps.len() {

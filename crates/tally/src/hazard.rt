@@ -1,4 +1,4 @@
-ghost use Rattle.std.specs.Prelude.{leb};
+ghost use Rattle.std.specs.Prelude.{nat_le};
 ghost use Rattle.tally.specs.Totals.{larger, class_of};
 ghost use Rattle.std.proofs.Common.{rules};
 
@@ -11,7 +11,7 @@ pub struct Hazard;
 impl Tally for Hazard {
     type Total = u16;
 
-    ghost le = { leb };
+    ghost le = { nat_le };
 
     ghost nothing = { 0 };
 
