@@ -34,7 +34,7 @@ fn add_outcome<'a>(
 {
     part.judged(n, 4, outcomes.len())?;
     let outcome = read_outcome(file, n, part.below())?;
-    outcomes.push(outcome);
+    let _ = outcomes.push(outcome);
     Ok(())
 }
 

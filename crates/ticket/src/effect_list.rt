@@ -53,7 +53,7 @@ impl Draft for EffectList {
             return Err(part.refused(Fault::Kind));
         };
         let effect = read_effect(file, n, part, self.effects.as_slice())?;
-        self.effects.push(effect);
+        let _ = self.effects.push(effect);
         Ok(())
     }
 }

@@ -25,6 +25,6 @@ pub(crate) fn push_literal<const N: usize>(
     if is_opposed(list.as_slice(), literal) {
         return Err(part.refused(Fault::Opposite));
     }
-    list.push(literal);
+    let _ = list.push(literal);
     Ok(())
 }

@@ -4,13 +4,14 @@ use std::alloc::AllocError;
 
 mod calls;
 
-// A list of at most N values, kept in place so that a copy needs no memory.
+// A list of at most N values, kept in place so that a copy needs no memory. The library's ArrayVec is no Copy.
 pub struct Few<T: Copy, const N: usize> {
     items: [T; N],
     len: usize,
     ghost within: { len ≤ N },
 }
 
+// Written out, since no derive is taken for a struct with a ghost field.
 impl<T: Copy, const N: usize> Clone for Few<T, N> {
     ghost is_clone = { λ x y. y ≡ x };
 

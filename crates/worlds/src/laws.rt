@@ -3,16 +3,12 @@ ghost use Rattle.worlds.specs.Laws.{CompatibleLists, EffectsTakeHold};
 
 // Of two lists of literals of conditions 1 to n, each free of opposites, some world meets both exactly where no literal
 // of one has its opposite in the other.
-pub fn compatible_lists() -> u8
+pub fn compatible_lists()
     ensures { CompatibleLists }
-{
-    0
-}
+{}
 
 // After a lawful outcome, the results of all effects that were met beforehand hold, and other conditions keep their
 // values.
-pub fn effects_take_hold() -> u8
+pub fn effects_take_hold()
     ensures { EffectsTakeHold }
-{
-    0
-}
+{}

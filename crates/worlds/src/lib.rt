@@ -2,4 +2,5 @@
 
 pub mod few;
 pub mod laws;
+pub mod literals;
 pub mod step;

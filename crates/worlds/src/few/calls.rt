@@ -1,4 +1,4 @@
-ghost use Rattle.std.specs.Prelude.{◌≡◌, [], ◌∷◌, ◌++◌, length, if◌then◌else◌, nat_lt};
+ghost use Rattle.std.specs.Prelude.{◌≡◌, [], ◌∷◌, ◌++◌, length, if◌then◌else◌, nat_lt, Ok, Err};
 ghost use Rattle.worlds.specs.Meaning.{listed};
 
 use crate::few::Few;
@@ -27,18 +27,18 @@ impl<T: Copy, const N: usize> Few<T, N> {
         &all[0..self.len]
     }
 
-    // Appends; false, with nothing changed, where the list has N elements.
-    pub fn push(&mut self, x: T) -> bool
-        ensures test { result ≡ nat_lt (length (listed self.old)) N }
-        ensures items { listed self.new ≡ (if result then listed self.old ++ x ∷ [] else listed self.old) }
+    // Appends; where the list has N elements, it is left as it was, and the element is handed back.
+    pub fn push(&mut self, x: T) -> Result<(), T>
+        ensures answer { result ≡ (if nat_lt (length (listed self.old)) N then Ok tt else Err x) }
+        ensures items { listed self.new ≡ (if nat_lt (length (listed self.old)) N then listed self.old ++ x ∷ [] else listed self.old) }
     {
         let at = self.len();
         if at >= N {
-            return false;
+            return Err(x);
         }
         self.items[at] = x;
         self.len = at + 1;
-        true
+        Ok(())
     }
 }
 
@@ -49,9 +49,9 @@ mod tests {
     #[test]
     fn a_full_list_takes_no_more(rt: HostRuntime) {
         let mut list: Few<i16, 2> = Few::none(0);
-        assert!(rt; list.push(5));
-        assert!(rt; list.push(-5));
-        assert!(rt; !list.push(1), "two is all that it can hold");
+        assert!(rt; list.push(5).is_ok());
+        assert!(rt; list.push(-5).is_ok());
+        assert!(rt; list.push(1).is_err(), "two is all that it can hold");
         assert_eq!(rt; list.len(), 2);
     }
 }

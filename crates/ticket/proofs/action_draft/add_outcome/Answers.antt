@@ -36,7 +36,7 @@ returns c = λ ks h e same.
     let passed = own_passed _ _ under_action ks _ _ h 6 4 _ e refl count refl _ c.in_ok-judged.ensures in
     let read = c.in_ok-outcome.ensures in
     let few : length l < 4 = subst (λ m. m < 4) c.len.ensures (leb-false 4 _ passed.1.space) in
-    let pushed = c.push.ensures.items ∙ ap (λ b. cond b (l ++ o ∷ []) l) (c.push.ensures.test ∙ lt-ltb _ 4 few) in
+    let pushed = c.push.ensures.items ∙ ap (λ b. cond b (l ++ o ∷ []) l) (lt-ltb _ 4 few) in
     record {
       sound = below_sound _ _ under_action ks _ _ h 6 4 _ e refl count refl passed.0 _ c.below.ensures (read.1 _ _ (ended refl refl));
       last = outcome_of o;

@@ -50,7 +50,7 @@ returns c = λ place earlier h handed.
     let slice = c.as_slice.ensures in
     let read = c.in_ok-effect.ensures earlier own seven (held_count _ _ place earlier _ _ h slice) (held_same _ _ place earlier _ _ h slice) (held_lawful _ _ place earlier _ _ h slice) in
     let few : length (listed c.args.self.now.effects) < 4 = subst (λ m. m < 4) (length-map c.as_slice.result.now effect_of ∙ ap length slice) read.room_left in
-    let pushed = c.push.ensures.items ∙ ap (λ b. cond b (listed c.args.self.now.effects ++ c.in_ok-effect.effect ∷ []) (listed c.args.self.now.effects)) (c.push.ensures.test ∙ lt-ltb _ 4 few) in
+    let pushed = c.push.ensures.items ∙ ap (λ b. cond b (listed c.args.self.now.effects ++ c.in_ok-effect.effect ∷ []) (listed c.args.self.now.effects)) (lt-ltb _ 4 few) in
     let longer = ap (map effect_of) pushed ∙ map-append effect_of (listed c.args.self.now.effects) (c.in_ok-effect.effect ∷ []) ∙ ap (λ l. map effect_of l ++ effect_of c.in_ok-effect.effect ∷ []) (sym slice) in
     let more = effects_more f c.args.n place earlier q.number _ _ _ (subst (λ l. HoldsEffects (map effect_of l) f c.args.n place earlier) (sym slice) h) read (ap kind (sym own.bytes) ∙ seven) longer in (
       subst (λ (x : Part). Sound f c.args.n place earlier x.number) same (subst (λ w. Sound f c.args.n w earlier q.number) (sym h.where_it_is) read.sound),
