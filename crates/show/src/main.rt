@@ -4,20 +4,12 @@
 mod words;
 
 use anyhow::anyhow;
-use records::refusal::Refusal;
 use std::alloc::Global;
 use std::process::ExitCode;
 use std::{env, fs};
 use ticket::ticket::Ticket;
 use words::{InWords, list_in_words};
 use worlds::step::{Action, Outcome, Sensing, Step};
-
-fn show_refusal(rt: &HostRuntime, refusal: Refusal) -> anyhow::Result<()> {
-    let fault = refusal.fault.number();
-    let record = refusal.record;
-    println!(rt; "ticket {fault} {record}")?;
-    Ok(())
-}
 
 fn show_outcome(rt: &HostRuntime, outcome: &Outcome) -> anyhow::Result<()> {
     for effect in outcome.effects.as_slice() {
@@ -85,7 +77,7 @@ fn run(rt: &HostRuntime) -> anyhow::Result<()> {
     let mut ticket = Ticket::new(rt.alloc())?;
     match ticket.read(file.as_slice()) {
         Ok(()) => show_ticket(rt, &ticket),
-        Err(refusal) => show_refusal(rt, refusal),
+        Err(refusal) => Ok(println!(rt; "{refusal}")?),
     }
 }
 
