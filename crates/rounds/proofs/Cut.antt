@@ -7,7 +7,6 @@ use Rattle.worlds.specs.Tickets.{step_at}
 use Rattle.tally.specs.Laws.{Laws}
 use Rattle.theory.specs.Procedures.{larger}
 use Rattle.theory.proofs.Order.{larger_left, larger_right, larger_mono}
-use Rattle.rounds.specs.declared.graph.Choice.TheVariants.{End, Take}
 use Rattle.rounds.specs.declared.graph.Tentative.{Tentative}
 use Rattle.rounds.specs.Graph.{Graph, NumberedWay, end, by_action, by_sensing, numbered_total}
 use Rattle.rounds.specs.Rounds.{total_at, both, rest_total, unless_settled, best_below, taken, by_step_at, best_step, tentative, best_node}
@@ -35,20 +34,20 @@ module _ {T : Type 0} {le : T → T → Bool} {nothing : T} {add : Step → T �
   front_up v w h f = record { node = f.node; tried = f.tried; is_node = f.is_node; is_tried = f.is_tried; at_most = laws.transitive f.tried.total v w f.at_most h }
 
   -- what is tried at an unsettled node
-  tried_at : (i : ℕ) (tried : Option (Tentative T)) → total_at totals i ≡ None → cond (g.ends i) (Some (record { node = i; choice = End; total = nothing })) (best_step le nothing add g.steps totals i (g.move i)) ≡ tried → tentative le nothing add g totals i ≡ tried
+  tried_at : (i : ℕ) (tried : Option (Tentative T)) → total_at totals i ≡ None → cond (g.ends i) (Some (record { node = i; step = None; total = nothing })) (best_step le nothing add g.steps totals i (g.move i)) ≡ tried → tentative le nothing add g totals i ≡ tried
   tried_at i tried none e =
-      ap (λ (v : Option T). unless_settled v (cond (g.ends i) (Some (record { node = i; choice = End; total = nothing })) (best_step le nothing add g.steps totals i (g.move i)))) none ∙ e
+      ap (λ (v : Option T). unless_settled v (cond (g.ends i) (Some (record { node = i; step = None; total = nothing })) (best_step le nothing add g.steps totals i (g.move i)))) none ∙ e
 
   -- where a node may end, it is such a node for every total
   front_end : (i : ℕ) (v : T) → i < length totals → total_at totals i ≡ None → g.ends i ≡ true → Front v
   front_end i v h none ended =
-      record { node = i; tried = record { node = i; choice = End; total = nothing }; is_node = h; is_tried = tried_at i _ none (cond-true _ _ _ ended); at_most = laws.least v }
+      record { node = i; tried = record { node = i; step = None; total = nothing }; is_node = h; is_tried = tried_at i _ none (cond-true _ _ _ ended); at_most = laws.least v }
 
   -- where a step leads to settled nodes only, it is one for that step's total
   front_step : (i k : ℕ) (x : Step) (rest : T) → i < length totals → total_at totals i ≡ None → step_at g.steps k ≡ Some x → rest_total le totals (g.move i k) ≡ Some rest → Front (add x rest)
   front_step i k x rest h none of_steps is-rest =
       let rule : ℕ → Option (Tentative T) = λ n. by_step_at le nothing add totals i n (g.move i n) (step_at g.steps n) in
-      let tried : Tentative T = record { node = i; choice = Take k; total = add x rest } in
+      let tried : Tentative T = record { node = i; step = Some k; total = add x rest } in
       let here : rule k ≡ Some tried = ap (by_step_at le nothing add totals i k (g.move i k)) of_steps ∙ ap (taken le nothing add i k x) is-rest in
       let within : k < length g.steps = step_within g.steps k x of_steps in
       elim (cases_Bool (g.ends i)) [

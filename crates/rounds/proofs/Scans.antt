@@ -17,8 +17,8 @@ module _ {T : Type 0} (le : T → T → Bool) where
 
 module _ {T : Type 0} (le : T → T → Bool) (nothing : T) (add : Step → T → T) where
   -- the tentative total by a step, read off the list of steps
-  pub by_step_read : (totals : List (Option T)) (i k : ℕ) (to row : Move) (x : Step) (o : Option Step) (r : Option (Tentative T)) → r ≡ by_step le nothing add totals i k to x → to ≡ row → o ≡ Some x → r ≡ by_step_at le nothing add totals i k row o
-  by_step_read totals i k to row x o r h e f = h ∙ ap (λ (m : Move). by_step le nothing add totals i k m x) e ∙ ap (by_step_at le nothing add totals i k row) (sym f)
+  pub by_step_read : (totals : List (Option T)) (i k : ℕ) (to row : Option Move) (x : Step) (o : Option Step) (r : Option (Tentative T)) → r ≡ by_step le nothing add totals i k to x → to ≡ row → o ≡ Some x → r ≡ by_step_at le nothing add totals i k row o
+  by_step_read totals i k to row x o r h e f = h ∙ ap (λ (m : Option Move). by_step le nothing add totals i k m x) e ∙ ap (by_step_at le nothing add totals i k row) (sym f)
 
 -- below suc n is below n, or n
 below_suc : (k n : ℕ) → k < suc n → (k < n) ⊎ (k ≡ n)

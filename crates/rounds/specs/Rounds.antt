@@ -4,8 +4,7 @@ use Rattle.worlds.specs.Steps.{Step}
 use Rattle.worlds.specs.Tickets.{step_at}
 use Rattle.theory.specs.Procedures.{larger}
 use Rattle.rounds.specs.declared.graph.Move.{Move}
-use Rattle.rounds.specs.declared.graph.Move.TheVariants.{Shut, Go, Fork}
-use Rattle.rounds.specs.declared.graph.Choice.TheVariants.{End, Take}
+use Rattle.rounds.specs.declared.graph.Move.TheVariants.{Go, Fork}
 use Rattle.rounds.specs.declared.graph.Tentative.{Tentative}
 use Rattle.rounds.specs.Graph.{Graph}
 
@@ -32,10 +31,10 @@ module _ {T : Type 0} (le : T → T → Bool) where
   both (Some a) (Some b) = Some (larger le a b)
 
   -- what follows a move: the larger total of the nodes that it leads to, where all of them are settled
-  abbrev pub rest_total : List (Option T) → Move → Option T
-  rest_total totals Shut = None
-  rest_total totals (Go next) = total_at totals next
-  rest_total totals (Fork next other) = both (total_at totals next) (total_at totals other)
+  abbrev pub rest_total : List (Option T) → Option Move → Option T
+  rest_total totals None = None
+  rest_total totals (Some (Go next)) = total_at totals next
+  rest_total totals (Some (Fork next other)) = both (total_at totals next) (total_at totals other)
 
   -- the one with the smaller total; the earlier where they tie
   abbrev pub better : Option (Tentative T) → Option (Tentative T) → Option (Tentative T)
@@ -52,26 +51,26 @@ module _ {T : Type 0} (le : T → T → Bool) (nothing : T) (add : Step → T �
   -- step k, which is x, taken at node i before a rest, where there is one
   abbrev pub taken : (i k : ℕ) → (x : Step) → (rest : Option T) → Option (Tentative T)
   taken i k x None = None
-  taken i k x (Some rest) = Some (record { node = i; choice = Take k; total = add x rest })
+  taken i k x (Some rest) = Some (record { node = i; step = Some k; total = add x rest })
 
   -- the tentative total of node i by step k, which is x and leads there as `to` says
-  abbrev pub by_step : List (Option T) → (i k : ℕ) → (to : Move) → (x : Step) → Option (Tentative T)
+  abbrev pub by_step : List (Option T) → (i k : ℕ) → (to : Option Move) → (x : Step) → Option (Tentative T)
   by_step totals i k to x = taken i k x (rest_total le totals to)
 
   -- the same where k may be no step
-  abbrev pub by_step_at : List (Option T) → (i k : ℕ) → (to : Move) → Option Step → Option (Tentative T)
+  abbrev pub by_step_at : List (Option T) → (i k : ℕ) → (to : Option Move) → Option Step → Option (Tentative T)
   by_step_at totals i k to None = None
   by_step_at totals i k to (Some x) = by_step totals i k to x
 
   -- the least by any step
-  abbrev pub best_step : List Step → List (Option T) → (i : ℕ) → (row : ℕ → Move) → Option (Tentative T)
+  abbrev pub best_step : List Step → List (Option T) → (i : ℕ) → (row : ℕ → Option Move) → Option (Tentative T)
   best_step steps totals i row = best_below le (λ k. by_step_at totals i k (row k) (step_at steps k)) (length steps)
 
   -- the least tentative total of a node: nothing where it ends, else by a step; none where it is settled
   abbrev pub tentative : Graph → List (Option T) → ℕ → Option (Tentative T)
   tentative g totals i =
       unless_settled (total_at totals i)
-      (cond (g.ends i) (Some (record { node = i; choice = End; total = nothing })) (best_step g.steps totals i (g.move i)))
+      (cond (g.ends i) (Some (record { node = i; step = None; total = nothing })) (best_step g.steps totals i (g.move i)))
 
   -- the least of all nodes, which is settled in this round
   abbrev pub best_node : Graph → List (Option T) → Option (Tentative T)

@@ -2,11 +2,10 @@
 ghost use Rattle.std.specs.Prelude.{◌≡◌, ◌<◌, false, [], map, length, if◌then◌else◌, slice_index_or};
 ghost use Rattle.worlds.specs.Meaning.{step_of};
 ghost use Rattle.theory.specs.Procedures.{larger};
-ghost use Rattle.rounds.specs.declared.graph.Move.TheVariants.{Shut};
 ghost use Rattle.rounds.specs.Graph.{graph_of};
 ghost use Rattle.rounds.specs.Rounds.{total_at, both, rest_total, better, by_step, best_step, tentative, best_node};
 
-use crate::graph::{Choice, Move, Tentative};
+use crate::graph::{Move, Tentative};
 use tally::Tally;
 use worlds::step::Step;
 
@@ -16,47 +15,41 @@ fn larger_of<T: Tally>(a: T::Total, b: T::Total) -> T::Total
     if T::at_most(a, b) { b } else { a }
 }
 
-fn known<V: Copy>(totals: &[Option<V>], node: u16) -> Option<V>
+fn known<V: Copy>(totals: &[Option<V>], node: usize) -> Option<V>
     ensures { result ≡ total_at totals.now node }
 {
-    let i = node as usize;
-    if i < totals.len() { totals[i] } else { None }
+    totals.get(node).copied().flatten()
 }
 
 fn larger_known<T: Tally>(a: Option<T::Total>, b: Option<T::Total>) -> Option<T::Total>
     ensures { result ≡ both T.Tally.le a b }
 {
-    match (a, b) {
-        (Some(x), Some(y)) => Some(larger_of::<T>(x, y)),
-        _ => None,
-    }
+    Some(larger_of::<T>(a?, b?))
 }
 
 // What follows a move, where all nodes that it leads to are settled.
 fn rest_of<T: Tally>(totals: &[Option<T::Total>], to: Move) -> Option<T::Total>
-    ensures { result ≡ rest_total T.Tally.le totals.now to }
+    ensures { result ≡ rest_total T.Tally.le totals.now (Some to) }
 {
     match to {
-        Move::Shut => None,
-        Move::Go(next) => known(totals, next),
-        Move::Fork(next, other) => larger_known::<T>(known(totals, next), known(totals, other)),
+        Move::Go(next) => known(totals, usize::from(next)),
+        Move::Fork(next, other) => larger_known::<T>(
+            known(totals, usize::from(next)),
+            known(totals, usize::from(other)),
+        ),
     }
 }
 
-fn move_at(moves: &[[Move; 32]], node: usize, step: usize) -> Move
-    ensures { result ≡ slice_index_or (slice_index_or moves.now node []) step Shut }
+fn move_at(moves: &[[Option<Move>; 32]], node: usize, step: usize) -> Option<Move>
+    ensures { result ≡ slice_index_or (slice_index_or moves.now node []) step None }
 {
-    if node < moves.len() && step < 32 {
-        moves[node][step]
-    } else {
-        Move::Shut
-    }
+    moves.get(node)?.get(step).copied().flatten()
 }
 
 fn may_end(ends: &[bool], node: usize) -> bool
     ensures { result ≡ slice_index_or ends.now node false }
 {
-    node < ends.len() && ends[node]
+    ends.get(node).copied().unwrap_or(false)
 }
 
 // Whether the later of two tentative totals is the better: where they tie, it is not.
@@ -88,28 +81,26 @@ fn by_step<T: Tally>(
     totals: &[Option<T::Total>],
     node: usize,
     number: usize,
-    to: Move,
+    to: Option<Move>,
 ) -> Option<Tentative<T::Total>>
     ensures { result ≡ by_step T.Tally.le T.Tally.nothing T.Tally.add totals.now node number to (step_of step.now) }
 {
-    match rest_of::<T>(totals, to) {
-        Some(rest) => Some(Tentative {
-            node,
-            choice: Choice::Take(number),
-            total: T::plus(step, rest),
-        }),
-        None => None,
-    }
+    let rest = rest_of::<T>(totals, to?)?;
+    Some(Tentative {
+        node,
+        step: Some(number),
+        total: T::plus(step, rest),
+    })
 }
 
 // The least by any step; of steps that tie, the first.
 fn best_step<T: Tally>(
     steps: &[Step],
-    moves: &[[Move; 32]],
+    moves: &[[Option<Move>; 32]],
     totals: &[Option<T::Total>],
     node: usize,
 ) -> Option<Tentative<T::Total>>
-    ensures { result ≡ best_step T.Tally.le T.Tally.nothing T.Tally.add (map step_of steps.now) totals.now node (λ k. slice_index_or (slice_index_or moves.now node []) k Shut) }
+    ensures { result ≡ best_step T.Tally.le T.Tally.nothing T.Tally.add (map step_of steps.now) totals.now node (λ k. slice_index_or (slice_index_or moves.now node []) k None) }
 {
     let mut best = None;
     for k in 0..steps.len() {
@@ -122,7 +113,7 @@ fn best_step<T: Tally>(
 // The least tentative total of a node that is not settled. Where it ends, that is nothing, and no step gives less.
 fn tentative_at<T: Tally>(
     steps: &[Step],
-    moves: &[[Move; 32]],
+    moves: &[[Option<Move>; 32]],
     ends: &[bool],
     totals: &[Option<T::Total>],
     node: usize,
@@ -130,14 +121,13 @@ fn tentative_at<T: Tally>(
     requires { node < length totals.now }
     ensures { result ≡ tentative T.Tally.le T.Tally.nothing T.Tally.add (graph_of steps.now moves.now ends.now (length totals.now)) totals.now node }
 {
-    let known = totals[node];
-    if let Some(_) = known {
+    if known(totals, node).is_some() {
         return None;
     }
     if may_end(ends, node) {
         return Some(Tentative {
             node,
-            choice: Choice::End,
+            step: None,
             total: T::nothing(),
         });
     }
@@ -147,7 +137,7 @@ fn tentative_at<T: Tally>(
 // The least of all nodes; of nodes that tie, the first.
 pub(crate) fn best_node<T: Tally>(
     steps: &[Step],
-    moves: &[[Move; 32]],
+    moves: &[[Option<Move>; 32]],
     ends: &[bool],
     totals: &[Option<T::Total>],
 ) -> Option<Tentative<T::Total>>

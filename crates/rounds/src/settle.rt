@@ -18,11 +18,11 @@ fn write_down<V: Copy>(
 )
     requires { (best.node < length totals.old) × (best.node < length marks.old) }
     ensures totals { totals.new ≡ set totals.old best.node (Some best.total) }
-    ensures marks { marks.new ≡ set marks.old best.node (record { choice = best.choice; rank = rank }) }
+    ensures marks { marks.new ≡ set marks.old best.node (record { step = best.step; rank = rank }) }
 {
     totals[best.node] = Some(best.total);
     marks[best.node] = Mark {
-        choice: best.choice,
+        step: best.step,
         rank,
     };
 }
@@ -31,7 +31,7 @@ fn write_down<V: Copy>(
 // adding a step never gives less than the rest.
 fn settle_nodes<T: Tally>(
     steps: &[Step],
-    moves: &[[Move; 32]],
+    moves: &[[Option<Move>; 32]],
     ends: &[bool],
     totals: &mut [Option<T::Total>],
     marks: &mut [Mark],
@@ -60,7 +60,7 @@ fn clear<V: Copy>(totals: &mut [Option<V>])
 // was settled. Answers how many have a total. What the lists have beyond the nodes stays as it was.
 pub fn settle<T: Tally>(
     steps: &[Step],
-    moves: &[[Move; 32]],
+    moves: &[[Option<Move>; 32]],
     ends: &[bool],
     totals: &mut [Option<T::Total>],
     marks: &mut [Mark],
