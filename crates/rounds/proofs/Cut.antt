@@ -34,9 +34,9 @@ module _ {T : Type 0} {le : T → T → Bool} {nothing : T} {add : Step → T �
   front_up v w h f = record { node = f.node; tried = f.tried; is_node = f.is_node; is_tried = f.is_tried; at_most = laws.transitive f.tried.total v w f.at_most h }
 
   -- what is tried at an unsettled node
-  tried_at : (i : ℕ) (tried : Option (Tentative T)) → total_at totals i ≡ None → cond (g.ends i) (Some (record { node = i; step = None; total = nothing })) (best_step le nothing add g.steps totals i (g.move i)) ≡ tried → tentative le nothing add g totals i ≡ tried
+  tried_at : (i : ℕ) (tried : Option (Tentative T)) → total_at totals i ≡ None → cond (g.ends i) (Some (record { node = i; step = None; total = nothing })) (best_step le nothing add g totals i) ≡ tried → tentative le nothing add g totals i ≡ tried
   tried_at i tried none e =
-      ap (λ (v : Option T). unless_settled v (cond (g.ends i) (Some (record { node = i; step = None; total = nothing })) (best_step le nothing add g.steps totals i (g.move i)))) none ∙ e
+      ap (λ (v : Option T). unless_settled v (cond (g.ends i) (Some (record { node = i; step = None; total = nothing })) (best_step le nothing add g totals i))) none ∙ e
 
   -- where a node may end, it is such a node for every total
   front_end : (i : ℕ) (v : T) → i < length totals → total_at totals i ≡ None → g.ends i ≡ true → Front v

@@ -13,7 +13,7 @@ use Rattle.rounds.specs.declared.graph.Tentative.{Tentative}
 use Rattle.rounds.specs.Graph.{Graph, graph_of, NumberedWay, end, by_action, by_sensing, numbered_total}
 use Rattle.rounds.specs.Rounds.{total_at, unsettled, both, rest_total, unless_settled, taken, by_step_at, best_step, tentative, best_node}
 use Rattle.std.proofs.lemmas.List.{get_or-set_same, get_or-set_other, get_or_append_left}
-use Rattle.worlds.specs.declared.step.Step as code_step
+use Rattle.rounds.specs.declared.graph.Graph as code_graph
 use Rattle.rounds.specs.declared.graph.Mark.{Mark}
 use Rattle.rounds.specs.Settled.{mark_at, Before, Follows, Chosen, Marked, Settled}
 use Rattle.rounds.proofs.Lists.{none_some, some_same, cases_some, some_within, one_settled}
@@ -113,17 +113,17 @@ module _ {T : Type 0} {le : T → T → Bool} {nothing : T} {add : Step → T �
   by_trying j o h e =
       let ending : Tentative T = record { node = j; step = None; total = nothing } in
       let rule : ℕ → Option (Tentative T) = λ n. by_step_at le nothing add totals j n (g.move j n) (step_at g.steps n) in
-      let tried : Option (Tentative T) = cond (g.ends j) (Some ending) (best_step le nothing add g.steps totals j (g.move j)) in
+      let tried : Option (Tentative T) = cond (g.ends j) (Some ending) (best_step le nothing add g totals j) in
       elim (cases_some (total_at totals j)) [
         | inr known ↦ absurd (none_some (sym (ap (λ (v : Option T). unless_settled v tried) known.1) ∙ e))
         | inl none ↦
             let f = sym (ap (λ (v : Option T). unless_settled v tried) none) ∙ e in
             elim (cases_Bool (g.ends j)) [
               | inl ended ↦
-                  subst (λ (n : Tentative T). Next n) (some_same (sym (cond-true _ (Some ending) (best_step le nothing add g.steps totals j (g.move j)) ended) ∙ f))
+                  subst (λ (n : Tentative T). Next n) (some_same (sym (cond-true _ (Some ending) (best_step le nothing add g totals j) ended) ∙ f))
                   (record { within = h; ahead = none; way = (end j ended, refl); account = (ended, refl) })
               | inr ended ↦
-                  let b = best_one laws rule (length g.steps) o (sym (cond-false _ (Some ending) (best_step le nothing add g.steps totals j (g.move j)) ended) ∙ f) in
+                  let b = best_one laws rule (length g.steps) o (sym (cond-false _ (Some ending) (best_step le nothing add g totals j) ended) ∙ f) in
                   by_taking j b.0 o h none b.2
             ]
       ]
@@ -298,9 +298,9 @@ module _ {T : Type 0} (le : T → T → Bool) (nothing : T) (add : Step → T �
       }
 
   -- the same with more behind both lists
-  pub settled_before_more : (steps : List code_step.Step) (moves : List (List (Option Move))) (ends : List Bool) (size n : ℕ) (ts more : List (Option T)) (ms others : List Mark) (count : ℕ) → size ≡ n → length ts ≡ n → length ms ≡ n → Settled le nothing add (graph_of steps moves ends size) ts ms count → Settled le nothing add (graph_of steps moves ends n) (ts ++ more) (ms ++ others) count
-  settled_before_more steps moves ends size n ts more ms others count same of-totals of-marks s =
-      settled_beyond (graph_of steps moves ends n) ts ms (ts ++ more) (ms ++ others) count
+  pub settled_before_more : (g : code_graph.Graph) (size n : ℕ) (ts more : List (Option T)) (ms others : List Mark) (count : ℕ) → size ≡ n → length ts ≡ n → length ms ≡ n → Settled le nothing add (graph_of g size) ts ms count → Settled le nothing add (graph_of g n) (ts ++ more) (ms ++ others) count
+  settled_before_more g size n ts more ms others count same of-totals of-marks s =
+      settled_beyond (graph_of g n) ts ms (ts ++ more) (ms ++ others) count
       (λ i h. get_or_append_left ts more None i (omega arith))
       (λ i h. get_or_append_left ms others _ i (omega arith))
-      (subst (λ (k : ℕ). Settled le nothing add (graph_of steps moves ends k) ts ms count) same s)
+      (subst (λ (k : ℕ). Settled le nothing add (graph_of g k) ts ms count) same s)

@@ -63,14 +63,14 @@ module _ {T : Type 0} (le : T → T → Bool) (nothing : T) (add : Step → T �
   by_step_at totals i k to (Some x) = by_step totals i k to x
 
   -- the least by any step
-  abbrev pub best_step : List Step → List (Option T) → (i : ℕ) → (row : ℕ → Option Move) → Option (Tentative T)
-  best_step steps totals i row = best_below le (λ k. by_step_at totals i k (row k) (step_at steps k)) (length steps)
+  abbrev pub best_step : Graph → List (Option T) → (i : ℕ) → Option (Tentative T)
+  best_step g totals i = best_below le (λ k. by_step_at totals i k (g.move i k) (step_at g.steps k)) (length g.steps)
 
   -- the least tentative total of a node: nothing where it ends, else by a step; none where it is settled
   abbrev pub tentative : Graph → List (Option T) → ℕ → Option (Tentative T)
   tentative g totals i =
       unless_settled (total_at totals i)
-      (cond (g.ends i) (Some (record { node = i; step = None; total = nothing })) (best_step g.steps totals i (g.move i)))
+      (cond (g.ends i) (Some (record { node = i; step = None; total = nothing })) (best_step g totals i))
 
   -- the least of all nodes, which is settled in this round
   abbrev pub best_node : Graph → List (Option T) → Option (Tentative T)

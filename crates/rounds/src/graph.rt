@@ -1,12 +1,28 @@
 // A search graph as the code keeps it, and what settling leaves of each node.
+use worlds::step::Step;
 
-// Where a step leads that is open at a node that is worked.
+// Where a step leads that is open at a worked node.
 #[derive(Clone, Copy)]
 pub enum Move {
     // an action leads to this node
     Go(u16),
     // a sensing step leads to these nodes, for yes and for no
     Fork(u16, u16),
+}
+
+// A node: where each step leads from it, none where the step is not open or the node is not worked; and whether a procedure
+// may end there.
+#[derive(Clone, Copy)]
+pub struct Node {
+    pub moves: [Option<Move>; 32],
+    pub ends: bool,
+}
+
+// A search graph: the steps that its moves are numbered by, and the nodes that its moves lead to.
+#[derive(Clone, Copy)]
+pub struct Graph<'a> {
+    pub steps: &'a [Step],
+    pub nodes: &'a [Node],
 }
 
 // How a node was settled, and how many were settled before it: a procedure takes the step of this number, or ends there.

@@ -1,11 +1,11 @@
 // One round of settling: the least tentative total of all nodes that are not settled.
-ghost use Rattle.std.specs.Prelude.{◌≡◌, ◌<◌, false, [], map, length, if◌then◌else◌, slice_index_or};
+ghost use Rattle.std.specs.Prelude.{◌≡◌, length, if◌then◌else◌};
 ghost use Rattle.worlds.specs.Meaning.{step_of};
 ghost use Rattle.theory.specs.Procedures.{larger};
-ghost use Rattle.rounds.specs.Graph.{graph_of};
+ghost use Rattle.rounds.specs.Graph.{move_at, ends_at, graph_of};
 ghost use Rattle.rounds.specs.Rounds.{total_at, both, rest_total, better, by_step, best_step, tentative, best_node};
 
-use crate::graph::{Move, Tentative};
+use crate::graph::{Graph, Move, Tentative};
 use tally::Tally;
 use worlds::step::Step;
 
@@ -38,18 +38,6 @@ fn rest_of<T: Tally>(totals: &[Option<T::Total>], to: Move) -> Option<T::Total>
             known(totals, usize::from(other)),
         ),
     }
-}
-
-fn move_at(moves: &[[Option<Move>; 32]], node: usize, step: usize) -> Option<Move>
-    ensures { result ≡ slice_index_or (slice_index_or moves.now node []) step None }
-{
-    moves.get(node)?.get(step).copied().flatten()
-}
-
-fn may_end(ends: &[bool], node: usize) -> bool
-    ensures { result ≡ slice_index_or ends.now node false }
-{
-    ends.get(node).copied().unwrap_or(false)
 }
 
 // Whether the later of two tentative totals is the better: where they tie, it is not.
@@ -93,60 +81,68 @@ fn by_step<T: Tally>(
     })
 }
 
-// The least by any step; of steps that tie, the first.
-fn best_step<T: Tally>(
-    steps: &[Step],
-    moves: &[[Option<Move>; 32]],
-    totals: &[Option<T::Total>],
-    node: usize,
-) -> Option<Tentative<T::Total>>
-    ensures { result ≡ best_step T.Tally.le T.Tally.nothing T.Tally.add (map step_of steps.now) totals.now node (λ k. slice_index_or (slice_index_or moves.now node []) k None) }
-{
-    let mut best = None;
-    for k in 0..steps.len() {
-        let here = by_step::<T>(&steps[k], totals, node, k, move_at(moves, node, k));
-        keep_better::<T>(&mut best, here);
+impl Graph<'_> {
+    fn move_at(&self, node: usize, step: usize) -> Option<Move>
+        ensures { result ≡ move_at self.now.nodes.now node step }
+    {
+        self.nodes.get(node)?.moves.get(step).copied().flatten()
     }
-    best
-}
 
-// The least tentative total of a node that is not settled. Where it ends, that is nothing, and no step gives less.
-fn tentative_at<T: Tally>(
-    steps: &[Step],
-    moves: &[[Option<Move>; 32]],
-    ends: &[bool],
-    totals: &[Option<T::Total>],
-    node: usize,
-) -> Option<Tentative<T::Total>>
-    requires { node < length totals.now }
-    ensures { result ≡ tentative T.Tally.le T.Tally.nothing T.Tally.add (graph_of steps.now moves.now ends.now (length totals.now)) totals.now node }
-{
-    if known(totals, node).is_some() {
-        return None;
+    fn may_end(&self, node: usize) -> bool
+        ensures { result ≡ ends_at self.now.nodes.now node }
+    {
+        self.nodes.get(node).is_some_and(|node| node.ends)
     }
-    if may_end(ends, node) {
-        return Some(Tentative {
-            node,
-            step: None,
-            total: T::nothing(),
-        });
-    }
-    best_step::<T>(steps, moves, totals, node)
-}
 
-// The least of all nodes; of nodes that tie, the first.
-pub(crate) fn best_node<T: Tally>(
-    steps: &[Step],
-    moves: &[[Option<Move>; 32]],
-    ends: &[bool],
-    totals: &[Option<T::Total>],
-) -> Option<Tentative<T::Total>>
-    ensures { result ≡ best_node T.Tally.le T.Tally.nothing T.Tally.add (graph_of steps.now moves.now ends.now (length totals.now)) totals.now }
-{
-    let mut best = None;
-    for i in 0..totals.len() {
-        let here = tentative_at::<T>(steps, moves, ends, totals, i);
-        keep_better::<T>(&mut best, here);
+    // The least by any step; of steps that tie, the first.
+    fn best_step<T: Tally>(
+        &self,
+        totals: &[Option<T::Total>],
+        node: usize,
+    ) -> Option<Tentative<T::Total>>
+        ensures { result ≡ best_step T.Tally.le T.Tally.nothing T.Tally.add (graph_of self.now (length totals.now)) totals.now node }
+    {
+        let mut best = None;
+        for k in 0..self.steps.len() {
+            let here = by_step::<T>(&self.steps[k], totals, node, k, self.move_at(node, k));
+            keep_better::<T>(&mut best, here);
+        }
+        best
     }
-    best
+
+    // The least tentative total of a node that is not settled. Where it ends, that is nothing, and no step gives less.
+    fn tentative_at<T: Tally>(
+        &self,
+        totals: &[Option<T::Total>],
+        node: usize,
+    ) -> Option<Tentative<T::Total>>
+        ensures { result ≡ tentative T.Tally.le T.Tally.nothing T.Tally.add (graph_of self.now (length totals.now)) totals.now node }
+    {
+        if known(totals, node).is_some() {
+            return None;
+        }
+        if self.may_end(node) {
+            return Some(Tentative {
+                node,
+                step: None,
+                total: T::nothing(),
+            });
+        }
+        self.best_step::<T>(totals, node)
+    }
+
+    // The least of all nodes; of nodes that tie, the first.
+    pub(crate) fn best_node<T: Tally>(
+        &self,
+        totals: &[Option<T::Total>],
+    ) -> Option<Tentative<T::Total>>
+        ensures { result ≡ best_node T.Tally.le T.Tally.nothing T.Tally.add (graph_of self.now (length totals.now)) totals.now }
+    {
+        let mut best = None;
+        for i in 0..totals.len() {
+            let here = self.tentative_at::<T>(totals, i);
+            keep_better::<T>(&mut best, here);
+        }
+        best
+    }
 }

@@ -2,7 +2,7 @@ use Rattle.std.proofs.Common.{length, arith}
 use Rattle.rounds.specs.Graph.{graph_of}
 use Rattle.rounds.proofs.Lists.{all_unsettled}
 use Rattle.rounds.proofs.Settling.{part_none, round_within, round_leaves, all_settled}
-use Rattle.rounds.proofs.settle.settle_nodes.Goals as goal
+use Rattle.rounds.proofs.graph.Graph.settle_nodes.Goals as goal
 
 pub loop-best-init : goal.loop-best-init
 loop-best-init g c =
@@ -10,23 +10,23 @@ loop-best-init g c =
 
 pub write_down-requires : goal.write_down-requires
 write_down-requires g c =
-    let graph = graph_of c.args.steps.now c.args.moves.now c.args.ends.now (length c.args.totals.now) in
+    let graph = graph_of c.args.self.now (length c.args.totals.now) in
     let h = round_within g.met.T.Tally.lawful graph c.loop-best.totals c.loop-best.marks c.loop-best.count (omega arith) c.loop-best.invariant.0 c.in-Some.best c.in-Some.ensures in
     (h, omega (arith, h))
 
 pub loop-best-smaller : goal.loop-best-smaller
 loop-best-smaller g c =
-    let graph = graph_of c.args.steps.now c.args.moves.now c.args.ends.now (length c.args.totals.now) in
+    let graph = graph_of c.args.self.now (length c.args.totals.now) in
     let r = round_leaves g.met.T.Tally.lawful graph c.loop-best.totals c.loop-best.marks c.loop-best.count (omega arith) c.loop-best.invariant.0 c.in-Some.best c.in-Some.ensures (omega arith) c.write_down.new.totals c.write_down.new.marks c.write_down.ensures.totals c.write_down.ensures.marks in
     omega (arith, r.1)
 
 pub loop-best-preserved : goal.loop-best-preserved
 loop-best-preserved g c =
-    let graph = graph_of c.args.steps.now c.args.moves.now c.args.ends.now (length c.args.totals.now) in
+    let graph = graph_of c.args.self.now (length c.args.totals.now) in
     let r = round_leaves g.met.T.Tally.lawful graph c.loop-best.totals c.loop-best.marks c.loop-best.count (omega arith) c.loop-best.invariant.0 c.in-Some.best c.in-Some.ensures (omega arith) c.write_down.new.totals c.write_down.new.marks c.write_down.ensures.totals c.write_down.ensures.marks in
     (r.0, omega (arith, r.1))
 
 pub returns : goal.returns
 returns g c =
-    let graph = graph_of c.args.steps.now c.args.moves.now c.args.ends.now (length c.args.totals.now) in
+    let graph = graph_of c.args.self.now (length c.args.totals.now) in
     all_settled g.met.T.Tally.lawful graph c.loop-best.totals c.loop-best.marks c.loop-best.count (omega arith) c.loop-best.invariant.0 c.in_default.ensures

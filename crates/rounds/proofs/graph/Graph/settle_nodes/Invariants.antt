@@ -2,12 +2,12 @@ use Rattle.std.proofs.Common.{◌≡◌, ◌+◌, length}
 use Rattle.rounds.specs.Graph.{graph_of}
 use Rattle.rounds.specs.Rounds.{unsettled}
 use Rattle.rounds.proofs.Settling.{Part}
-use Rattle.rounds.proofs.settle.settle_nodes.Given as goal
+use Rattle.rounds.proofs.graph.Graph.settle_nodes.Given as goal
 
 -- each round settles one node more
 abbrev pub invariant-loop-best : goal.invariant-loop-best
 invariant-loop-best g l =
-    Part g.T.Tally.le g.T.Tally.nothing g.T.Tally.add (graph_of l.steps l.moves l.ends (length l.initial.totals)) l.totals l.marks l.count
+    Part g.T.Tally.le g.T.Tally.nothing g.T.Tally.add (graph_of l.self (length l.initial.totals)) l.totals l.marks l.count
     × (l.count + unsettled l.totals ≡ length l.initial.totals)
 
 abbrev pub decreases-loop-best : goal.decreases-loop-best

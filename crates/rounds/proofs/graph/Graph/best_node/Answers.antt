@@ -1,5 +1,5 @@
 use Rattle.rounds.proofs.Scans.{best_more}
-use Rattle.rounds.proofs.rounds.best_node.Goals as goal
+use Rattle.rounds.proofs.graph.Graph.best_node.Goals as goal
 
 pub loop-i-preserved : goal.loop-i-preserved
 loop-i-preserved g c =
