@@ -1,24 +1,13 @@
 -- The best of several tentative totals: one more number, and what it tells of all.
 -- Assumes nothing.
-use Rattle.std.proofs.Common.{◌≡◌, ℕ, zero, suc, ◌+◌, ◌<◌, Bool, true, ◌⊎◌, List, Some, None, Option, sym, refl, ap, ◌∙◌, subst, inl, inr, not-suc-le-zero, add-one, arith}
+use Rattle.std.proofs.Common.{◌≡◌, ℕ, zero, suc, ◌<◌, Bool, true, ◌⊎◌, Some, None, Option, sym, refl, ap, ◌∙◌, subst, inl, inr, not-suc-le-zero, arith}
 use Rattle.std.proofs.lemmas.Bool.{cases_Bool, cases_lt, cond-true, cond-false}
 use Rattle.worlds.specs.Steps.{Step}
 use Rattle.tally.specs.Laws.{Laws}
 use Rattle.theory.proofs.Order.{le_self}
-use Rattle.rounds.specs.declared.graph.Move.{Move}
 use Rattle.rounds.specs.declared.graph.Tentative.{Tentative}
-use Rattle.rounds.specs.Rounds.{better, best_below, by_step, by_step_at}
+use Rattle.rounds.specs.Rounds.{better, best_below}
 use Rattle.rounds.proofs.Lists.{none_some, some_same, cases_some}
-
-module _ {T : Type 0} (le : T → T → Bool) where
-  -- the best below k, joined with that of k, is the best below k + 1
-  pub best_more : (rule : ℕ → Option (Tentative T)) (k : ℕ) (best here r : Option (Tentative T)) → best ≡ best_below le rule k → here ≡ rule k → r ≡ better le best here → r ≡ best_below le rule (k + 1)
-  best_more rule k best here r e f h = h ∙ ap (λ (b : Option (Tentative T)). better le b here) e ∙ ap (better le (best_below le rule k)) f ∙ ap (best_below le rule) (sym (add-one k))
-
-module _ {T : Type 0} (le : T → T → Bool) (nothing : T) (add : Step → T → T) where
-  -- the tentative total by a step, read off the list of steps
-  pub by_step_read : (totals : List (Option T)) (i k : ℕ) (to row : Option Move) (x : Step) (o : Option Step) (r : Option (Tentative T)) → r ≡ by_step le nothing add totals i k to x → to ≡ row → o ≡ Some x → r ≡ by_step_at le nothing add totals i k row o
-  by_step_read totals i k to row x o r h e f = h ∙ ap (λ (m : Option Move). by_step le nothing add totals i k m x) e ∙ ap (by_step_at le nothing add totals i k row) (sym f)
 
 -- below suc n is below n, or n
 below_suc : (k n : ℕ) → k < suc n → (k < n) ⊎ (k ≡ n)
@@ -31,19 +20,15 @@ module _ {T : Type 0} {le : T → T → Bool} {nothing : T} {add : Step → T �
   better_none None None e = (refl, refl)
   better_none None (Some b) e = absurd (none_some (sym e))
   better_none (Some a) None e = absurd (none_some (sym e))
-  better_none (Some a) (Some b) e =
-      elim (cases_Bool (le a.total b.total)) [
-        | inl h ↦ absurd (none_some (sym e ∙ cond-true _ (Some a) (Some b) h))
-        | inr h ↦ absurd (none_some (sym e ∙ cond-false _ (Some a) (Some b) h))
-      ]
+  better_none (Some a) (Some b) e = absurd (none_some (sym e))
 
   better_one : (a b : Option (Tentative T)) (o : Tentative T) → better le a b ≡ Some o → (a ≡ Some o) ⊎ (b ≡ Some o)
   better_one None b o e = inr e
   better_one (Some a) None o e = inl e
   better_one (Some a) (Some b) o e =
       elim (cases_Bool (le a.total b.total)) [
-        | inl h ↦ inl (sym (cond-true _ (Some a) (Some b) h) ∙ e)
-        | inr h ↦ inr (sym (cond-false _ (Some a) (Some b) h) ∙ e)
+        | inl h ↦ inl (ap Some (sym (cond-true _ a b h)) ∙ e)
+        | inr h ↦ inr (ap Some (sym (cond-false _ a b h)) ∙ e)
       ]
 
   -- totals of the same tentative are at most each other
@@ -54,16 +39,16 @@ module _ {T : Type 0} {le : T → T → Bool} {nothing : T} {add : Step → T �
   better_left a None o e = same_le a o e
   better_left a (Some b) o e =
       elim (cases_Bool (le a.total b.total)) [
-        | inl h ↦ same_le a o (sym (cond-true _ (Some a) (Some b) h) ∙ e)
-        | inr h ↦ subst (λ (x : Tentative T). le x.total a.total ≡ true) (some_same (sym (cond-false _ (Some a) (Some b) h) ∙ e)) (laws.total a.total b.total h)
+        | inl h ↦ same_le a o (ap Some (sym (cond-true _ a b h)) ∙ e)
+        | inr h ↦ subst (λ (x : Tentative T). le x.total a.total ≡ true) (some_same (ap Some (sym (cond-false _ a b h)) ∙ e)) (laws.total a.total b.total h)
       ]
 
   better_right : (a : Option (Tentative T)) (b o : Tentative T) → better le a (Some b) ≡ Some o → le o.total b.total ≡ true
   better_right None b o e = same_le b o e
   better_right (Some a) b o e =
       elim (cases_Bool (le a.total b.total)) [
-        | inl h ↦ subst (λ (x : Tentative T). le x.total b.total ≡ true) (some_same (sym (cond-true _ (Some a) (Some b) h) ∙ e)) h
-        | inr h ↦ same_le b o (sym (cond-false _ (Some a) (Some b) h) ∙ e)
+        | inl h ↦ subst (λ (x : Tentative T). le x.total b.total ≡ true) (some_same (ap Some (sym (cond-true _ a b h)) ∙ e)) h
+        | inr h ↦ same_le b o (ap Some (sym (cond-false _ a b h)) ∙ e)
       ]
 
   -- ## Of all below n

@@ -1,5 +1,5 @@
 -- One round: the tentative totals of the nodes, and the least of them.
-use Rattle.std.specs.Prelude.{ℕ, zero, suc, Bool, cond, List, [], ◌∷◌, length, Some, None, Option, slice_index_or}
+use Rattle.std.specs.Prelude.{if◌then◌else◌, ℕ, zero, suc, Bool, cond, List, [], ◌∷◌, length, Some, None, Option, slice_index_or}
 use Rattle.worlds.specs.Steps.{Step}
 use Rattle.worlds.specs.Tickets.{step_at}
 use Rattle.theory.specs.Procedures.{larger}
@@ -36,11 +36,15 @@ module _ {T : Type 0} (le : T → T → Bool) where
   rest_total totals (Some (Go next)) = total_at totals next
   rest_total totals (Some (Fork next other)) = both (total_at totals next) (total_at totals other)
 
-  -- the one with the smaller total; the earlier where they tie
+  -- the one of two with the smaller total; the earlier where they tie
+  abbrev pub better_of : Tentative T → Tentative T → Tentative T
+  better_of a b = if le a.total b.total then a else b
+
+  -- the same of two that there may be
   abbrev pub better : Option (Tentative T) → Option (Tentative T) → Option (Tentative T)
   better None later = later
   better (Some a) None = Some a
-  better (Some a) (Some b) = cond (le a.total b.total) (Some a) (Some b)
+  better (Some a) (Some b) = Some (better_of a b)
 
   -- the best of those that a rule gives for the numbers below n
   abbrev pub best_below : (ℕ → Option (Tentative T)) → ℕ → Option (Tentative T)

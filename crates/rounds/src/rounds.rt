@@ -1,9 +1,9 @@
 // One round of settling: the least tentative total of all nodes that are not settled.
-ghost use Rattle.std.specs.Prelude.{◌≡◌, length, if◌then◌else◌};
+ghost use Rattle.std.specs.Prelude.{◌≡◌, length};
 ghost use Rattle.worlds.specs.Meaning.{step_of};
 ghost use Rattle.theory.specs.Procedures.{larger};
 ghost use Rattle.rounds.specs.Graph.{move_at, ends_at, graph_of};
-ghost use Rattle.rounds.specs.Rounds.{total_at, both, rest_total, better, by_step, best_step, tentative, best_node};
+ghost use Rattle.rounds.specs.Rounds.{total_at, both, rest_total, better_of, by_step, best_step, tentative, best_node};
 
 use crate::graph::{Graph, Move, Tentative};
 use tally::Tally;
@@ -40,45 +40,15 @@ fn rest_of<T: Tally>(totals: &[Option<T::Total>], to: Move) -> Option<T::Total>
     }
 }
 
-// Whether the later of two tentative totals is the better: where they tie, it is not.
-fn improves<T: Tally>(
-    earlier: Option<Tentative<T::Total>>,
-    later: Option<Tentative<T::Total>>,
-) -> bool
-    ensures { better T.Tally.le earlier later ≡ (if result then later else earlier) }
+// The one with the smaller total; the earlier where they tie.
+fn better<T: Tally>(earlier: Tentative<T::Total>, later: Tentative<T::Total>) -> Tentative<T::Total>
+    ensures { result ≡ better_of T.Tally.le earlier later }
 {
-    match (earlier, later) {
-        (Some(a), Some(b)) => !T::at_most(a.total, b.total),
-        (None, Some(_)) => true,
-        (_, None) => false,
+    if T::at_most(earlier.total, later.total) {
+        earlier
+    } else {
+        later
     }
-}
-
-// Keeps the better of two. It writes in place, since most of what is tried does not improve on the best.
-fn keep_better<T: Tally>(best: &mut Option<Tentative<T::Total>>, new: Option<Tentative<T::Total>>)
-    ensures { best.new ≡ better T.Tally.le best.old new }
-{
-    if improves::<T>(*best, new) {
-        *best = new;
-    }
-}
-
-// The tentative total of a node by a step, of this number, that leads there as `to` says.
-fn by_step<T: Tally>(
-    step: &Step,
-    totals: &[Option<T::Total>],
-    node: usize,
-    number: usize,
-    to: Option<Move>,
-) -> Option<Tentative<T::Total>>
-    ensures { result ≡ by_step T.Tally.le T.Tally.nothing T.Tally.add totals.now node number to (step_of step.now) }
-{
-    let rest = rest_of::<T>(totals, to?)?;
-    Some(Tentative {
-        node,
-        step: Some(number),
-        total: T::plus(step, rest),
-    })
 }
 
 impl Graph<'_> {
@@ -94,6 +64,24 @@ impl Graph<'_> {
         self.nodes.get(node).is_some_and(|node| node.ends)
     }
 
+    // The tentative total of a node by a step, of this number.
+    fn by_step<T: Tally>(
+        &self,
+        totals: &[Option<T::Total>],
+        node: usize,
+        number: usize,
+        step: &Step,
+    ) -> Option<Tentative<T::Total>>
+        ensures { result ≡ by_step T.Tally.le T.Tally.nothing T.Tally.add totals.now node number (move_at self.now.nodes.now node number) (step_of step.now) }
+    {
+        let rest = rest_of::<T>(totals, self.move_at(node, number)?)?;
+        Some(Tentative {
+            node,
+            step: Some(number),
+            total: T::plus(step, rest),
+        })
+    }
+
     // The least by any step; of steps that tie, the first.
     fn best_step<T: Tally>(
         &self,
@@ -102,12 +90,11 @@ impl Graph<'_> {
     ) -> Option<Tentative<T::Total>>
         ensures { result ≡ best_step T.Tally.le T.Tally.nothing T.Tally.add (graph_of self.now (length totals.now)) totals.now node }
     {
-        let mut best = None;
-        for k in 0..self.steps.len() {
-            let here = by_step::<T>(&self.steps[k], totals, node, k, self.move_at(node, k));
-            keep_better::<T>(&mut best, here);
-        }
-        best
+        self.steps
+            .iter()
+            .enumerate()
+            .filter_map(|(number, step)| self.by_step::<T>(totals, node, number, step))
+            .reduce(|best, here| better::<T>(best, here))
     }
 
     // The least tentative total of a node that is not settled. Where it ends, that is nothing, and no step gives less.
@@ -138,11 +125,8 @@ impl Graph<'_> {
     ) -> Option<Tentative<T::Total>>
         ensures { result ≡ best_node T.Tally.le T.Tally.nothing T.Tally.add (graph_of self.now (length totals.now)) totals.now }
     {
-        let mut best = None;
-        for i in 0..totals.len() {
-            let here = self.tentative_at::<T>(totals, i);
-            keep_better::<T>(&mut best, here);
-        }
-        best
+        (0..totals.len())
+            .filter_map(|node| self.tentative_at::<T>(totals, node))
+            .reduce(|best, here| better::<T>(best, here))
     }
 }

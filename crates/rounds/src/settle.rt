@@ -25,14 +25,6 @@ fn write_down<V: Copy>(
     };
 }
 
-fn clear<V: Copy>(totals: &mut [Option<V>])
-    ensures { (i : ℕ) → i < length totals.new → total_at totals.new i ≡ None }
-{
-    for t in totals.iter_mut() {
-        *t = None;
-    }
-}
-
 impl Graph<'_> {
     // Settles one node a round, while some node has a tentative total. What is settled first has the least total of all, since
     // adding a step never gives less than the rest.
@@ -41,6 +33,7 @@ impl Graph<'_> {
         requires clear { (i : ℕ) → i < length totals.old → total_at totals.old i ≡ None }
         ensures { Settled T.Tally.le T.Tally.nothing T.Tally.add (graph_of self.now (length totals.old)) totals.new marks.new result }
     {
+        // Counted by hand: over ranks in a `for` the last round would need a second exit, and a proof that none is left.
         let mut count = 0;
         while let Some(best) = self.best_node::<T>(totals) {
             write_down(best, count, totals, marks);
@@ -51,12 +44,13 @@ impl Graph<'_> {
 
     // Gives each node the least total of any procedure from it, none exactly where there is none, and marks how and as which it
     // was settled. Answers how many have a total. What the lists have beyond the nodes stays as it was.
+    // Two lists are lent, since a caller may keep working totals apart from marks; and lent, since working space is the caller's.
     pub fn settle<T: Tally>(&self, totals: &mut [Option<T::Total>], marks: &mut [Mark]) -> usize
         ensures { Settles T.Tally.le T.Tally.nothing T.Tally.add (graph_of self.now (nodes_in self.now.nodes.now totals.old marks.old)) totals.old marks.old totals.new marks.new result }
     {
         let size = self.nodes.len().min(totals.len().min(marks.len()));
         let nodes = &mut totals[..size];
-        clear(nodes);
+        nodes.fill(None);
         self.settle_nodes::<T>(nodes, &mut marks[..size])
     }
 }

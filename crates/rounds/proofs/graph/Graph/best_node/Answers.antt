@@ -1,6 +1,19 @@
-use Rattle.rounds.proofs.Scans.{best_more}
+use Rattle.std.proofs.Common.{length, zero-add, ap, ◌∙◌, arith, rules}
+use Rattle.std.proofs.lemmas.Iterator.{YieldsList-from_range}
+use Rattle.std.proofs.lemmas.Iterator.Consumers.{YieldsList-from_filter_map}
+use Rattle.std.proofs.lemmas.List.FromFn.{length-range_with_len, get_or-range_with_len}
+use Rattle.std.specs.List.{range_with_len}
+use Rattle.rounds.specs.Graph.{graph_of}
+use Rattle.rounds.specs.Rounds.{better_of, best_below, tentative}
+use Rattle.rounds.proofs.Chains.{reduced, best_of_list}
 use Rattle.rounds.proofs.graph.Graph.best_node.Goals as goal
 
-pub loop-i-preserved : goal.loop-i-preserved
-loop-i-preserved g c =
-    best_more g.T.Tally.le _ c.loop-i.i c.loop-i.best c.tentative_at-here.result c.keep_better.new.best c.loop-i.invariant c.tentative_at-here.ensures c.keep_better.ensures
+pub returns : goal.returns
+returns g c =
+    let size = length c.args.totals.now in
+    let rule = tentative g.T.Tally.le g.T.Tally.nothing g.T.Tally.add (graph_of c.args.self.now size) c.args.totals.now in
+    reduced _ (better_of g.T.Tally.le) c.reduce.result c.reduce.ensures.ran
+    (YieldsList-from_filter_map _ rule (YieldsList-from_range 0 size size c.filter_map.ensures.source (omega arith)) c.filter_map.ensures.closure (λ x r q k. search rules))
+    (λ a x b q k. search rules)
+    ∙ best_of_list g.T.Tally.le rule rule (range_with_len 0 size) (λ k d h. ap rule (get_or-range_with_len 0 size k d (omega (arith, h, length-range_with_len 0 size)) ∙ zero-add k))
+    ∙ ap (best_below g.T.Tally.le rule) (length-range_with_len 0 size)

@@ -15,7 +15,7 @@ returns g c =
     let of-marks : length c.settle_nodes.new.marks ≡ size = omega (arith, length-take size ms) in
     record {
       settled =
-          settled_before_more g.T.Tally.le g.T.Tally.nothing g.T.Tally.add c.args.self.now (length c.clear.new.totals) n c.settle_nodes.new.totals (drop size ts) c.settle_nodes.new.marks (drop size ms) c.settle_nodes.result
+          settled_before_more g.T.Tally.le g.T.Tally.nothing g.T.Tally.add c.args.self.now (length c.fill.new.self) n c.settle_nodes.new.totals (drop size ts) c.settle_nodes.new.marks (drop size ms) c.settle_nodes.result
           (omega arith) (omega arith) (omega arith) c.settle_nodes.ensures;
       totals_beyond = drop-append-drop size ts c.settle_nodes.new.totals n (omega arith) of-totals;
       marks_beyond = drop-append-drop size ms c.settle_nodes.new.marks n (omega arith) of-marks;
