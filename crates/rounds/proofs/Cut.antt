@@ -10,7 +10,8 @@ use Rattle.theory.proofs.Order.{larger_left, larger_right, larger_mono}
 use Rattle.rounds.specs.declared.graph.Tentative.{Tentative}
 use Rattle.rounds.specs.Graph.{Graph, NumberedWay, end, by_action, by_sensing, numbered_total}
 use Rattle.rounds.specs.Rounds.{total_at, both, rest_total, unless_settled, best_below, taken, by_step_at, best_step, tentative, best_node}
-use Rattle.rounds.proofs.Lists.{none_some, cases_some, step_within}
+use Rattle.std.proofs.lemmas.Option.{none-some}
+use Rattle.rounds.proofs.Lists.{cases_some, step_within}
 use Rattle.rounds.proofs.Scans.{best_none, best_least}
 
 module _ {T : Type 0} {le : T → T → Bool} {nothing : T} {add : Step → T → T} (laws : Laws le nothing add) (g : Graph) (totals : List (Option T)) where
@@ -54,7 +55,7 @@ module _ {T : Type 0} {le : T → T → Bool} {nothing : T} {add : Step → T �
         | inl ended ↦ front_end i (add x rest) h none ended
         | inr ended ↦
             elim (cases_some (best_below le rule (length g.steps))) [
-              | inl best ↦ absurd (none_some (sym (best_none laws rule (length g.steps) best k within) ∙ here))
+              | inl best ↦ absurd (none-some _ (sym (best_none laws rule (length g.steps) best k within) ∙ here))
               | inr best ↦
                   record {
                     node = i;
@@ -111,4 +112,4 @@ module _ {T : Type 0} {le : T → T → Bool} {nothing : T} {add : Step → T �
   pub none_left : BelowAll → g.size ≡ length totals → best_node le nothing add g totals ≡ None → (i : ℕ) → i < length totals → total_at totals i ≡ None → NumberedWay g i → ⊥
   none_left below size best i h none p =
       let f = front below size p h none in
-      none_some (sym (best_none laws (tentative le nothing add g totals) (length totals) best f.node f.is_node) ∙ f.is_tried)
+      none-some _ (sym (best_none laws (tentative le nothing add g totals) (length totals) best f.node f.is_node) ∙ f.is_tried)

@@ -7,7 +7,8 @@ use Rattle.tally.specs.Laws.{Laws}
 use Rattle.theory.proofs.Order.{le_self}
 use Rattle.rounds.specs.declared.graph.Tentative.{Tentative}
 use Rattle.rounds.specs.Rounds.{better, best_below}
-use Rattle.rounds.proofs.Lists.{none_some, some_same, cases_some}
+use Rattle.std.proofs.lemmas.Option.{none-some, same_Some}
+use Rattle.rounds.proofs.Lists.{cases_some}
 
 -- below suc n is below n, or n
 below_suc : (k n : ℕ) → k < suc n → (k < n) ⊎ (k ≡ n)
@@ -18,9 +19,9 @@ module _ {T : Type 0} {le : T → T → Bool} {nothing : T} {add : Step → T �
 
   better_none : (a b : Option (Tentative T)) → better le a b ≡ None → (a ≡ None) × (b ≡ None)
   better_none None None e = (refl, refl)
-  better_none None (Some b) e = absurd (none_some (sym e))
-  better_none (Some a) None e = absurd (none_some (sym e))
-  better_none (Some a) (Some b) e = absurd (none_some (sym e))
+  better_none None (Some b) e = absurd (none-some _ (sym e))
+  better_none (Some a) None e = absurd (none-some _ (sym e))
+  better_none (Some a) (Some b) e = absurd (none-some _ (sym e))
 
   better_one : (a b : Option (Tentative T)) (o : Tentative T) → better le a b ≡ Some o → (a ≡ Some o) ⊎ (b ≡ Some o)
   better_one None b o e = inr e
@@ -33,21 +34,21 @@ module _ {T : Type 0} {le : T → T → Bool} {nothing : T} {add : Step → T �
 
   -- totals of the same tentative are at most each other
   same_le : (a o : Tentative T) → Some a ≡ Some o → le o.total a.total ≡ true
-  same_le a o e = subst (λ (x : Tentative T). le x.total a.total ≡ true) (some_same e) (le_self laws a.total)
+  same_le a o e = subst (λ (x : Tentative T). le x.total a.total ≡ true) (same_Some _ _ e) (le_self laws a.total)
 
   better_left : (a : Tentative T) (b : Option (Tentative T)) (o : Tentative T) → better le (Some a) b ≡ Some o → le o.total a.total ≡ true
   better_left a None o e = same_le a o e
   better_left a (Some b) o e =
       elim (cases_Bool (le a.total b.total)) [
         | inl h ↦ same_le a o (ap Some (sym (cond-true _ a b h)) ∙ e)
-        | inr h ↦ subst (λ (x : Tentative T). le x.total a.total ≡ true) (some_same (ap Some (sym (cond-false _ a b h)) ∙ e)) (laws.total a.total b.total h)
+        | inr h ↦ subst (λ (x : Tentative T). le x.total a.total ≡ true) (same_Some _ _ (ap Some (sym (cond-false _ a b h)) ∙ e)) (laws.total a.total b.total h)
       ]
 
   better_right : (a : Option (Tentative T)) (b o : Tentative T) → better le a (Some b) ≡ Some o → le o.total b.total ≡ true
   better_right None b o e = same_le b o e
   better_right (Some a) b o e =
       elim (cases_Bool (le a.total b.total)) [
-        | inl h ↦ subst (λ (x : Tentative T). le x.total b.total ≡ true) (some_same (ap Some (sym (cond-true _ a b h)) ∙ e)) h
+        | inl h ↦ subst (λ (x : Tentative T). le x.total b.total ≡ true) (same_Some _ _ (ap Some (sym (cond-true _ a b h)) ∙ e)) h
         | inr h ↦ same_le b o (ap Some (sym (cond-false _ a b h)) ∙ e)
       ]
 
@@ -65,7 +66,7 @@ module _ {T : Type 0} {le : T → T → Bool} {nothing : T} {add : Step → T �
 
   -- the best is one of them
   pub best_one : (rule : ℕ → Option (Tentative T)) (n : ℕ) (o : Tentative T) → best_below le rule n ≡ Some o → (k : ℕ) × (k < n) × (rule k ≡ Some o)
-  best_one rule zero o e = absurd (none_some e)
+  best_one rule zero o e = absurd (none-some _ e)
   best_one rule (suc n) o e =
       elim (better_one (best_below le rule n) (rule n) o e) [
         | inl l ↦ let p = best_one rule n o l in (p.0, omega (arith, p.1), p.2)
@@ -79,7 +80,7 @@ module _ {T : Type 0} {le : T → T → Bool} {nothing : T} {add : Step → T �
       elim (below_suc k n h) [
         | inl l ↦
             elim (cases_some (best_below le rule n)) [
-              | inl none ↦ absurd (none_some (sym (best_none rule n none k l) ∙ f))
+              | inl none ↦ absurd (none-some _ (sym (best_none rule n none k l) ∙ f))
               | inr some ↦
                   laws.transitive o.total some.0.total a.total
                   (better_left some.0 (rule n) o (subst (λ (b : Option (Tentative T)). better le b (rule n) ≡ Some o) some.1 e))

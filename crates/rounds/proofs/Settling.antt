@@ -1,6 +1,6 @@
 -- One round keeps what is known of the settled nodes, and the last one leaves nothing to settle.
 -- Assumes nothing.
-use Rattle.std.proofs.Common.{◌≡◌, ℕ, suc, ◌+◌, ◌<◌, Bool, cond, ◌⊎◌, List, ◌++◌, length, set, Some, None, Option, sym, refl, ap, ◌∙◌, subst, inl, inr, not-suc-le-zero, arith}
+use Rattle.std.proofs.Common.{◌≡◌, ℕ, ◌+◌, ◌<◌, Bool, cond, ◌⊎◌, List, ◌++◌, length, set, Some, None, Option, is_some, count_by, sym, refl, ap, ◌∙◌, subst, inl, inr, not-suc-le-zero, arith}
 use Rattle.std.proofs.lemmas.Bool.{cases_Bool, cases_eq, cases_lt, cond-true, cond-false}
 use Rattle.worlds.specs.Steps.{Step}
 use Rattle.worlds.specs.Tickets.{step_at}
@@ -11,20 +11,22 @@ use Rattle.rounds.specs.declared.graph.Move.{Move}
 use Rattle.rounds.specs.declared.graph.Move.TheVariants.{Go, Fork}
 use Rattle.rounds.specs.declared.graph.Tentative.{Tentative}
 use Rattle.rounds.specs.Graph.{Graph, graph_of, NumberedWay, end, by_action, by_sensing, numbered_total}
-use Rattle.rounds.specs.Rounds.{total_at, unsettled, both, rest_total, unless_settled, taken, by_step_at, best_step, tentative, best_node}
+use Rattle.rounds.specs.Rounds.{total_at, both, rest_total, unless_settled, taken, by_step_at, best_step, tentative, best_node}
+use Rattle.std.proofs.lemmas.List.Sums.{sum_by-set}
 use Rattle.std.proofs.lemmas.List.{get_or-set_same, get_or-set_other, get_or_append_left}
 use Rattle.rounds.specs.declared.graph.Graph as code_graph
 use Rattle.rounds.specs.declared.graph.Mark.{Mark}
 use Rattle.rounds.specs.Settled.{mark_at, Before, Follows, Chosen, Marked, Settled}
-use Rattle.rounds.proofs.Lists.{none_some, some_same, cases_some, some_within, one_settled}
+use Rattle.std.proofs.lemmas.Option.{none-some, same_Some}
+use Rattle.rounds.proofs.Lists.{cases_some, some_within}
 use Rattle.rounds.proofs.Scans.{best_one}
 use Rattle.rounds.proofs.Cut.{BelowAll, best_below_all, none_left}
 
 -- two options that give some value both
 both_some : {T : Type 0} (le : T → T → Bool) (a b : Option T) (r : T) → both le a b ≡ Some r → (u : T) × (v : T) × (a ≡ Some u) × (b ≡ Some v) × (r ≡ larger le u v)
-both_some le None b r e = absurd (none_some e)
-both_some le (Some a) None r e = absurd (none_some e)
-both_some le (Some a) (Some b) r e = (a, b, refl, refl, sym (some_same e))
+both_some le None b r e = absurd (none-some _ e)
+both_some le (Some a) None r e = absurd (none-some _ e)
+both_some le (Some a) (Some b) r e = (a, b, refl, refl, sym (same_Some _ _ e))
 
 module _ {T : Type 0} (le : T → T → Bool) (nothing : T) (add : Step → T → T) where
   -- what is known after `count` rounds: each settled node has its least total, and the marks tell how
@@ -70,14 +72,14 @@ module _ {T : Type 0} {le : T → T → Bool} {nothing : T} {add : Step → T �
       record { is_node = h; settled = e; earlier = part.marked.ranked j t h e }
 
   follows : (m : Option Move) (rest : T) → rest_total le totals m ≡ Some rest → Follows le g totals marks count m rest
-  follows None rest e = absurd (none_some e)
+  follows None rest e = absurd (none-some _ e)
   follows (Some (Go next)) rest e = before next rest e
   follows (Some (Fork next other)) rest e =
       let b = both_some le (total_at totals next) (total_at totals other) rest e in
       (b.0, b.1, before next b.0 b.2, before other b.1 b.3, b.4)
 
   way_from : (j k : ℕ) (x : Step) (rest : T) → step_at g.steps k ≡ Some x → (m : Option Move) → g.move j k ≡ m → rest_total le totals m ≡ Some rest → (p : NumberedWay g j) × (numbered_total le nothing add p ≡ add x rest)
-  way_from j k x rest of_steps None moves e = absurd (none_some e)
+  way_from j k x rest of_steps None moves e = absurd (none-some _ e)
   way_from j k x rest of_steps (Some (Go next)) moves e =
       let b = before next rest e in
       let p = (part.settled next rest b.is_node e).0 in
@@ -93,13 +95,13 @@ module _ {T : Type 0} {le : T → T → Bool} {nothing : T} {add : Step → T �
   by_taking : (j k : ℕ) (o : Tentative T) → j < length totals → total_at totals j ≡ None → by_step_at le nothing add totals j k (g.move j k) (step_at g.steps k) ≡ Some o → Next o
   by_taking j k o h none e =
       elim (cases_some (step_at g.steps k)) [
-        | inl missing ↦ absurd (none_some (sym (ap (by_step_at le nothing add totals j k (g.move j k)) missing) ∙ e))
+        | inl missing ↦ absurd (none-some _ (sym (ap (by_step_at le nothing add totals j k (g.move j k)) missing) ∙ e))
         | inr x ↦
             let f = sym (ap (by_step_at le nothing add totals j k (g.move j k)) x.1) ∙ e in
             elim (cases_some (rest_total le totals (g.move j k))) [
-              | inl missing ↦ absurd (none_some (sym (ap (taken le nothing add j k x.0) missing) ∙ f))
+              | inl missing ↦ absurd (none-some _ (sym (ap (taken le nothing add j k x.0) missing) ∙ f))
               | inr rest ↦
-                  subst (λ (n : Tentative T). Next n) (some_same (sym (ap (taken le nothing add j k x.0) rest.1) ∙ f))
+                  subst (λ (n : Tentative T). Next n) (same_Some _ _ (sym (ap (taken le nothing add j k x.0) rest.1) ∙ f))
                   (record {
                     within = h;
                     ahead = none;
@@ -115,12 +117,12 @@ module _ {T : Type 0} {le : T → T → Bool} {nothing : T} {add : Step → T �
       let rule : ℕ → Option (Tentative T) = λ n. by_step_at le nothing add totals j n (g.move j n) (step_at g.steps n) in
       let tried : Option (Tentative T) = cond (g.ends j) (Some ending) (best_step le nothing add g totals j) in
       elim (cases_some (total_at totals j)) [
-        | inr known ↦ absurd (none_some (sym (ap (λ (v : Option T). unless_settled v tried) known.1) ∙ e))
+        | inr known ↦ absurd (none-some _ (sym (ap (λ (v : Option T). unless_settled v tried) known.1) ∙ e))
         | inl none ↦
             let f = sym (ap (λ (v : Option T). unless_settled v tried) none) ∙ e in
             elim (cases_Bool (g.ends j)) [
               | inl ended ↦
-                  subst (λ (n : Tentative T). Next n) (some_same (sym (cond-true _ (Some ending) (best_step le nothing add g totals j) ended) ∙ f))
+                  subst (λ (n : Tentative T). Next n) (same_Some _ _ (sym (cond-true _ (Some ending) (best_step le nothing add g totals j) ended) ∙ f))
                   (record { within = h; ahead = none; way = (end j ended, refl); account = (ended, refl) })
               | inr ended ↦
                   let b = best_one laws rule (length g.steps) o (sym (cond-false _ (Some ending) (best_step le nothing add g totals j) ended) ∙ f) in
@@ -143,7 +145,7 @@ module _ {T : Type 0} {le : T → T → Bool} {nothing : T} {add : Step → T �
   -- a settled node is another than the one that is settled now, and stays as it was
   stays : (o : Tentative T) → Next o → Stays g totals marks (totals_after o) (marks_after o)
   stays o n i t h e =
-      let ne : i ≡ o.node → ⊥ = λ same. none_some (sym n.ahead ∙ subst (λ (k : ℕ). total_at totals k ≡ Some t) same e) in
+      let ne : i ≡ o.node → ⊥ = λ same. none-some _ (sym n.ahead ∙ subst (λ (k : ℕ). total_at totals k ≡ Some t) same e) in
       (get_or-set_other totals o.node i (Some o.total) None ne ∙ e, get_or-set_other marks o.node i _ _ ne)
 
   -- what is known of a node after the round: it is the one settled now, or it was settled before, and its mark is as it was
@@ -160,7 +162,7 @@ module _ {T : Type 0} {le : T → T → Bool} {nothing : T} {add : Step → T �
             let f = subst (λ (k : ℕ). total_at (totals_after o) k ≡ Some t) same e in
             inl (
               same,
-              some_same (sym f ∙ get_or-set_same totals o.node (Some o.total) None n.within),
+              same_Some _ _ (sym f ∙ get_or-set_same totals o.node (Some o.total) None n.within),
               subst (λ (k : ℕ). mark_at (marks_after o) k ≡ record { step = o.step; rank = count }) (sym same) (get_or-set_same marks o.node _ _ (omega (arith, n.within))),
             )
         | inr ne ↦ inr (sym (get_or-set_other totals o.node i (Some o.total) None ne) ∙ e, get_or-set_other marks o.node i _ _ ne)
@@ -242,13 +244,20 @@ module _ {T : Type 0} {le : T → T → Bool} {nothing : T} {add : Step → T �
   pub round_within : (o : Tentative T) → Some o ≡ best_node le nothing add g totals → o.node < length totals
   round_within o best = (next o (sym best)).within
 
-  -- the same of the lists that it leaves; and one node less is unsettled
-  pub round_leaves : (o : Tentative T) → Some o ≡ best_node le nothing add g totals → length marks ≡ length totals → (ts : List (Option T)) (ms : List Mark) → ts ≡ set totals o.node (Some o.total) → ms ≡ set marks o.node (record { step = o.step; rank = count }) → Part le nothing add g ts ms (count + 1) × (suc (unsettled ts) ≡ unsettled totals)
+  -- one more node is settled
+  settles_one : (o : Tentative T) → Next o → count_by is_some (totals_after o) ≡ count_by is_some totals + 1
+  settles_one o n =
+      let one : Option T → ℕ = λ t. cond (is_some t) 1 0 in
+      let before : one (total_at totals o.node) ≡ 0 = ap one n.ahead in
+      omega (arith, sum_by-set one totals o.node (Some o.total) None n.within, before)
+
+  -- the same of the lists that it leaves; and one more node is settled
+  pub round_leaves : (o : Tentative T) → Some o ≡ best_node le nothing add g totals → length marks ≡ length totals → (ts : List (Option T)) (ms : List Mark) → ts ≡ set totals o.node (Some o.total) → ms ≡ set marks o.node (record { step = o.step; rank = count }) → Part le nothing add g ts ms (count + 1) × (count_by is_some ts ≡ count_by is_some totals + 1)
   round_leaves o best of-marks ts ms e f =
       let n = next o (sym best) in (
         subst (λ (us : List (Option T)). Part le nothing add g us ms (count + 1)) (sym e)
             (subst (λ (ns : List Mark). Part le nothing add g (totals_after o) ns (count + 1)) (sym f) (round_keeps o (sym best) of-marks)),
-        subst (λ (us : List (Option T)). suc (unsettled us) ≡ unsettled totals) (sym e) (one_settled totals o.node o.total n.within n.ahead),
+        subst (λ (us : List (Option T)). count_by is_some us ≡ count_by is_some totals + 1) (sym e) (settles_one o n),
       )
 
   -- where there is nothing more to settle, all is settled
@@ -268,11 +277,11 @@ module _ {T : Type 0} {le : T → T → Bool} {nothing : T} {add : Step → T �
   pub part_none : (g : Graph) (totals : List (Option T)) (marks : List Mark) → ((i : ℕ) → i < g.size → total_at totals i ≡ None) → Part le nothing add g totals marks 0
   part_none g totals marks none =
       record {
-        settled = λ i t h e. absurd (none_some (sym (none i h) ∙ e));
+        settled = λ i t h e. absurd (none-some _ (sym (none i h) ∙ e));
         marked = record {
-          chosen = λ i t h e. absurd (none_some (sym (none i h) ∙ e));
-          ranked = λ i t h e. absurd (none_some (sym (none i h) ∙ e));
-          apart = λ i j t u h l e f same. absurd (none_some (sym (none i h) ∙ e));
+          chosen = λ i t h e. absurd (none-some _ (sym (none i h) ∙ e));
+          ranked = λ i t h e. absurd (none-some _ (sym (none i h) ∙ e));
+          apart = λ i j t u h l e f same. absurd (none-some _ (sym (none i h) ∙ e));
           each_rank = λ r h. absurd (not-suc-le-zero h);
         };
       }

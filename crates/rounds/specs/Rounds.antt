@@ -1,5 +1,5 @@
 -- One round: the tentative totals of the nodes, and the least of them.
-use Rattle.std.specs.Prelude.{if◌then◌else◌, ℕ, zero, suc, Bool, cond, List, [], ◌∷◌, length, Some, None, Option, slice_index_or}
+use Rattle.std.specs.Prelude.{if◌then◌else◌, ℕ, zero, suc, Bool, cond, List, length, Some, None, Option, slice_index_or}
 use Rattle.worlds.specs.Steps.{Step}
 use Rattle.worlds.specs.Tickets.{step_at}
 use Rattle.theory.specs.Procedures.{larger}
@@ -11,12 +11,6 @@ use Rattle.rounds.specs.Graph.{Graph}
 -- the total of a node so far: none where it is not settled yet, or is no node
 abbrev pub total_at : {T : Type 0} → List (Option T) → ℕ → Option T
 total_at totals i = slice_index_or totals i None
-
--- how many nodes are not settled
-abbrev pub unsettled : {T : Type 0} → List (Option T) → ℕ
-unsettled [] = 0
-unsettled (None ∷ totals) = suc (unsettled totals)
-unsettled (Some t ∷ totals) = unsettled totals
 
 -- what is tried at a node, but none where the node has a total already
 abbrev pub unless_settled : {T : Type 0} → Option T → Option (Tentative T) → Option (Tentative T)
