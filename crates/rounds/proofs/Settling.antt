@@ -53,7 +53,7 @@ module _ {T : Type 0} (le : T → T → Bool) (nothing : T) (add : Step → T �
   stays_chosen i rank None t c = c
   stays_chosen i rank (Some k) t c = (c.0, c.1, c.2, stays_follows rank (g.move i k) c.1 c.3, c.4)
 
-module _ {T : Type 0} {le : T → T → Bool} {nothing : T} {add : Step → T → T} (laws : Laws le nothing add) (g : Graph) (totals : List (Option T)) (marks : List Mark) (count : ℕ) (size : g.size ≡ length totals) (part : Part le nothing add g totals marks count) where
+module _ {T : Type 0} {le : T → T → Bool} {nothing : T} {add : Step → T → T} (laws : Laws le nothing add) {g : Graph} {totals : List (Option T)} {marks : List Mark} {count : ℕ} (part : Part le nothing add g totals marks count) (size : g.size ≡ length totals) where
   below_all : BelowAll laws g totals
   below_all i t h e p = (part.settled i t (omega arith) e).1 p
 
@@ -241,8 +241,8 @@ module _ {T : Type 0} {le : T → T → Bool} {nothing : T} {add : Step → T �
       }
 
   -- the node that a round settles is one
-  pub round_within : (o : Tentative T) → Some o ≡ best_node le nothing add g totals → o.node < length totals
-  round_within o best = (next o (sym best)).within
+  pub round_within : {o : Tentative T} → Some o ≡ best_node le nothing add g totals → o.node < length totals
+  round_within {o} best = (next o (sym best)).within
 
   -- one more node is settled
   settles_one : (o : Tentative T) → Next o → count_by is_some (totals_after o) ≡ count_by is_some totals + 1
@@ -252,8 +252,8 @@ module _ {T : Type 0} {le : T → T → Bool} {nothing : T} {add : Step → T �
       omega (arith, sum_by-set one totals o.node (Some o.total) None n.within, before)
 
   -- the same of the lists that it leaves; and one more node is settled
-  pub round_leaves : (o : Tentative T) → Some o ≡ best_node le nothing add g totals → length marks ≡ length totals → (ts : List (Option T)) (ms : List Mark) → ts ≡ set totals o.node (Some o.total) → ms ≡ set marks o.node (record { step = o.step; rank = count }) → Part le nothing add g ts ms (count + 1) × (count_by is_some ts ≡ count_by is_some totals + 1)
-  round_leaves o best of-marks ts ms e f =
+  pub round_leaves : {o : Tentative T} → Some o ≡ best_node le nothing add g totals → length marks ≡ length totals → {ts : List (Option T)} {ms : List Mark} → ts ≡ set totals o.node (Some o.total) → ms ≡ set marks o.node (record { step = o.step; rank = count }) → Part le nothing add g ts ms (count + 1) × (count_by is_some ts ≡ count_by is_some totals + 1)
+  round_leaves {o} best of-marks {ts} {ms} e f =
       let n = next o (sym best) in (
         subst (λ (us : List (Option T)). Part le nothing add g us ms (count + 1)) (sym e)
             (subst (λ (ns : List Mark). Part le nothing add g (totals_after o) ns (count + 1)) (sym f) (round_keeps o (sym best) of-marks)),
@@ -274,8 +274,8 @@ module _ {T : Type 0} {le : T → T → Bool} {nothing : T} {add : Step → T �
 
 module _ {T : Type 0} {le : T → T → Bool} {nothing : T} {add : Step → T → T} where
   -- before the first round no node is settled
-  pub part_none : (g : Graph) (totals : List (Option T)) (marks : List Mark) → ((i : ℕ) → i < g.size → total_at totals i ≡ None) → Part le nothing add g totals marks 0
-  part_none g totals marks none =
+  pub part_none : {g : Graph} {totals : List (Option T)} {marks : List Mark} → ((i : ℕ) → i < g.size → total_at totals i ≡ None) → Part le nothing add g totals marks 0
+  part_none none =
       record {
         settled = λ i t h e. absurd (none-some _ (sym (none i h) ∙ e));
         marked = record {
