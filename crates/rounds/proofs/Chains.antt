@@ -17,7 +17,7 @@ module _ {S A : Type 0} {steps : S → Option A → S → Type 0} where
   came s all xs d yields = sym (map-id xs) ∙ items_from_drains xs (d.1.0, d.1.1, λ _. (d.0, d.1.2)) yields
 
   -- what `reduce` answers, where its closure computes h
-  pub reduced : {F : Type 0} {s : S} {all : List A} (g : Mut F (A × (A × Unit {0})) A) (h : A → A → A) {f : F} (r : Option A) → ReducesItems steps g s f r → YieldsList steps (λ x. x) s all → ((a x b : A) (f' : F) → Called g f (a, (x, tt)) b f' → (b ≡ h a x) × (f' ≡ f)) → r ≡ reduce h all
+  reduced : {F : Type 0} {s : S} {all : List A} (g : Mut F (A × (A × Unit {0})) A) (h : A → A → A) {f : F} (r : Option A) → ReducesItems steps g s f r → YieldsList steps (λ x. x) s all → ((a x b : A) (f' : F) → Called g f (a, (x, tt)) b f' → (b ≡ h a x) × (f' ≡ f)) → r ≡ reduce h all
   reduced {s = s} {all = all} g h None drained yields calls = ap (reduce h) (came s all [] drained yields)
   reduced {F = F} {s = s} {all = all} g h {f = f} (Some y) ran yields calls =
       let x = ran.0 in
@@ -54,7 +54,9 @@ module _ {T : Type 0} (le : T → T → Bool) where
       ∙ best_from try rule xs (suc n) (better le b (try x)) (λ k d h. let e : n + suc k ≡ suc n + k = omega arith in same (suc k) d (suc-le-suc h) ∙ ap rule e) (ap₂ (better le) e (same 0 x (omega arith) ∙ ap rule (add-zero n)))
       ∙ ap (best_below le rule) later
 
-  -- the best of what the members of a list give, where those give what a rule does for their places
-  pub best_of_list : {A : Type 0} (try : A → Option (Tentative T)) (rule : ℕ → Option (Tentative T)) (xs : List A) → ((k : ℕ) (d : A) → k < length xs → try (get_or xs k d) ≡ rule k) → reduce (better_of le) (filter_map try xs) ≡ best_below le rule (length xs)
-  best_of_list try rule xs same =
-      best_from try rule xs 0 None (λ k d h. same k d h ∙ ap rule (sym (zero-add k))) refl ∙ ap (best_below le rule) (zero-add (length xs))
+  -- what a chain answers that keeps the better, where the members of a list give what a rule does for their places
+  pub best_of_chain : {S F A : Type 0} {steps : S → Option (Tentative T) → S → Type 0} {s : S} (g : Mut F (Tentative T × (Tentative T × Unit {0})) (Tentative T)) {f : F} {r : Option (Tentative T)} (try : A → Option (Tentative T)) (rule : ℕ → Option (Tentative T)) (xs : List A) → ReducesItems steps g s f r → YieldsList steps (λ x. x) s (filter_map try xs) → ((a x b : Tentative T) (f' : F) → Called g f (a, (x, tt)) b f' → (b ≡ better_of le a x) × (f' ≡ f)) → ((k : ℕ) (d : A) → k < length xs → try (get_or xs k d) ≡ rule k) → r ≡ best_below le rule (length xs)
+  best_of_chain g {r = r} try rule xs ran yields calls same =
+      reduced g (better_of le) r ran yields calls
+      ∙ best_from try rule xs 0 None (λ k d h. same k d h ∙ ap rule (sym (zero-add k))) refl
+      ∙ ap (best_below le rule) (zero-add (length xs))

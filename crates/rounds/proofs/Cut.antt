@@ -1,7 +1,8 @@
 -- The cut: each procedure from an unsettled node passes some unsettled node whose tentative total is at most its own.
 -- Assumes nothing.
-use Rattle.std.proofs.Common.{◌≡◌, ℕ, ◌<◌, Bool, true, cond, List, length, Some, None, Option, sym, ap, ◌∙◌, subst, inl, inr}
+use Rattle.std.proofs.Common.{◌≡◌, ℕ, ◌<◌, Bool, true, cond, List, length, Some, None, Option, option_and_then, sym, ap, ◌∙◌, subst, inl, inr}
 use Rattle.std.proofs.lemmas.Bool.{cases_Bool, cond-true, cond-false}
+use Rattle.std.specs.Option.{option_map}
 use Rattle.worlds.specs.Steps.{Step}
 use Rattle.worlds.specs.Tickets.{step_at}
 use Rattle.tally.specs.Laws.{Laws}
@@ -9,7 +10,7 @@ use Rattle.theory.specs.Procedures.{larger}
 use Rattle.theory.proofs.Order.{larger_left, larger_right, larger_mono}
 use Rattle.rounds.specs.declared.graph.Tentative.{Tentative}
 use Rattle.rounds.specs.Graph.{Graph, NumberedWay, end, by_action, by_sensing, numbered_total}
-use Rattle.rounds.specs.Rounds.{total_at, both, rest_total, unless_settled, best_below, taken, by_step_at, best_step, tentative, best_node}
+use Rattle.rounds.specs.Rounds.{total_at, both, rest_total, unless_settled, best_below, taken, by_step, best_step, tentative, best_node}
 use Rattle.std.proofs.lemmas.Option.{none-some}
 use Rattle.rounds.proofs.Lists.{cases_some, step_within}
 use Rattle.rounds.proofs.Scans.{best_none, best_least}
@@ -47,9 +48,9 @@ module _ {T : Type 0} {le : T → T → Bool} {nothing : T} {add : Step → T �
   -- where a step leads to settled nodes only, it is one for that step's total
   front_step : (i k : ℕ) (x : Step) (rest : T) → i < length totals → total_at totals i ≡ None → step_at g.steps k ≡ Some x → rest_total le totals (g.move i k) ≡ Some rest → Front (add x rest)
   front_step i k x rest h none of_steps is-rest =
-      let rule : ℕ → Option (Tentative T) = λ n. by_step_at le nothing add totals i n (g.move i n) (step_at g.steps n) in
+      let rule : ℕ → Option (Tentative T) = λ n. option_and_then (by_step le nothing add totals i n (g.move i n)) (step_at g.steps n) in
       let tried : Tentative T = record { node = i; step = Some k; total = add x rest } in
-      let here : rule k ≡ Some tried = ap (by_step_at le nothing add totals i k (g.move i k)) of_steps ∙ ap (taken le nothing add i k x) is-rest in
+      let here : rule k ≡ Some tried = ap (option_and_then (by_step le nothing add totals i k (g.move i k))) of_steps ∙ ap (option_map (taken le nothing add i k x)) is-rest in
       let within : k < length g.steps = step_within g.steps k x of_steps in
       elim (cases_Bool (g.ends i)) [
         | inl ended ↦ front_end i (add x rest) h none ended

@@ -1,7 +1,8 @@
 -- One round keeps what is known of the settled nodes, and the last one leaves nothing to settle.
 -- Assumes nothing.
-use Rattle.std.proofs.Common.{◌≡◌, ℕ, ◌+◌, ◌<◌, Bool, cond, ◌⊎◌, List, ◌++◌, length, set, Some, None, Option, is_some, count_by, sym, refl, ap, ◌∙◌, subst, inl, inr, not-suc-le-zero, arith}
+use Rattle.std.proofs.Common.{◌≡◌, ℕ, ◌+◌, ◌<◌, Bool, cond, ◌⊎◌, List, ◌++◌, length, set, Some, None, Option, option_and_then, is_some, count_by, sym, refl, ap, ◌∙◌, subst, inl, inr, not-suc-le-zero, arith}
 use Rattle.std.proofs.lemmas.Bool.{cases_Bool, cases_eq, cases_lt, cond-true, cond-false}
+use Rattle.std.specs.Option.{option_map}
 use Rattle.worlds.specs.Steps.{Step}
 use Rattle.worlds.specs.Tickets.{step_at}
 use Rattle.tally.specs.Laws.{Laws}
@@ -11,7 +12,7 @@ use Rattle.rounds.specs.declared.graph.Move.{Move}
 use Rattle.rounds.specs.declared.graph.Move.TheVariants.{Go, Fork}
 use Rattle.rounds.specs.declared.graph.Tentative.{Tentative}
 use Rattle.rounds.specs.Graph.{Graph, graph_of, NumberedWay, end, by_action, by_sensing, numbered_total}
-use Rattle.rounds.specs.Rounds.{total_at, both, rest_total, unless_settled, taken, by_step_at, best_step, tentative, best_node}
+use Rattle.rounds.specs.Rounds.{total_at, both, rest_total, unless_settled, taken, by_step, best_step, tentative, best_node}
 use Rattle.std.proofs.lemmas.List.Sums.{sum_by-set}
 use Rattle.std.proofs.lemmas.List.{get_or-set_same, get_or-set_other, get_or_append_left}
 use Rattle.rounds.specs.declared.graph.Graph as code_graph
@@ -92,16 +93,16 @@ module _ {T : Type 0} {le : T → T → Bool} {nothing : T} {add : Step → T �
       let q = (part.settled other b.1 d.is_node b.3).0 in
       (by_sensing j k next other x of_steps moves c.is_node d.is_node p.0 q.0, ap (λ (t : T). add x (larger le t (numbered_total le nothing add q.0))) p.1 ∙ ap (λ (t : T). add x (larger le b.0 t)) q.1 ∙ ap (add x) (sym b.4))
 
-  by_taking : (j k : ℕ) (o : Tentative T) → j < length totals → total_at totals j ≡ None → by_step_at le nothing add totals j k (g.move j k) (step_at g.steps k) ≡ Some o → Next o
+  by_taking : (j k : ℕ) (o : Tentative T) → j < length totals → total_at totals j ≡ None → option_and_then (by_step le nothing add totals j k (g.move j k)) (step_at g.steps k) ≡ Some o → Next o
   by_taking j k o h none e =
       elim (cases_some (step_at g.steps k)) [
-        | inl missing ↦ absurd (none-some _ (sym (ap (by_step_at le nothing add totals j k (g.move j k)) missing) ∙ e))
+        | inl missing ↦ absurd (none-some _ (sym (ap (option_and_then (by_step le nothing add totals j k (g.move j k))) missing) ∙ e))
         | inr x ↦
-            let f = sym (ap (by_step_at le nothing add totals j k (g.move j k)) x.1) ∙ e in
+            let f = sym (ap (option_and_then (by_step le nothing add totals j k (g.move j k))) x.1) ∙ e in
             elim (cases_some (rest_total le totals (g.move j k))) [
-              | inl missing ↦ absurd (none-some _ (sym (ap (taken le nothing add j k x.0) missing) ∙ f))
+              | inl missing ↦ absurd (none-some _ (sym (ap (option_map (taken le nothing add j k x.0)) missing) ∙ f))
               | inr rest ↦
-                  subst (λ (n : Tentative T). Next n) (same_Some _ _ (sym (ap (taken le nothing add j k x.0) rest.1) ∙ f))
+                  subst (λ (n : Tentative T). Next n) (same_Some _ _ (sym (ap (option_map (taken le nothing add j k x.0)) rest.1) ∙ f))
                   (record {
                     within = h;
                     ahead = none;
@@ -114,7 +115,7 @@ module _ {T : Type 0} {le : T → T → Bool} {nothing : T} {add : Step → T �
   by_trying : (j : ℕ) (o : Tentative T) → j < length totals → tentative le nothing add g totals j ≡ Some o → Next o
   by_trying j o h e =
       let ending : Tentative T = record { node = j; step = None; total = nothing } in
-      let rule : ℕ → Option (Tentative T) = λ n. by_step_at le nothing add totals j n (g.move j n) (step_at g.steps n) in
+      let rule : ℕ → Option (Tentative T) = λ n. option_and_then (by_step le nothing add totals j n (g.move j n)) (step_at g.steps n) in
       let tried : Option (Tentative T) = cond (g.ends j) (Some ending) (best_step le nothing add g totals j) in
       elim (cases_some (total_at totals j)) [
         | inr known ↦ absurd (none-some _ (sym (ap (λ (v : Option T). unless_settled v tried) known.1) ∙ e))

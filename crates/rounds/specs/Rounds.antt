@@ -1,5 +1,6 @@
 -- One round: the tentative totals of the nodes, and the least of them.
-use Rattle.std.specs.Prelude.{if◌then◌else◌, ℕ, zero, suc, Bool, cond, List, length, Some, None, Option, slice_index_or}
+use Rattle.std.specs.Prelude.{if◌then◌else◌, ℕ, zero, suc, Bool, cond, List, length, Some, None, Option, option_and_then, slice_index_or}
+use Rattle.std.specs.Option.{option_map}
 use Rattle.worlds.specs.Steps.{Step}
 use Rattle.worlds.specs.Tickets.{step_at}
 use Rattle.theory.specs.Procedures.{larger}
@@ -46,23 +47,17 @@ module _ {T : Type 0} (le : T → T → Bool) where
   best_below rule (suc n) = better (best_below rule n) (rule n)
 
 module _ {T : Type 0} (le : T → T → Bool) (nothing : T) (add : Step → T → T) where
-  -- step k, which is x, taken at node i before a rest, where there is one
-  abbrev pub taken : (i k : ℕ) → (x : Step) → (rest : Option T) → Option (Tentative T)
-  taken i k x None = None
-  taken i k x (Some rest) = Some (record { node = i; step = Some k; total = add x rest })
+  -- step k, which is x, taken at node i before a rest
+  abbrev pub taken : (i k : ℕ) → (x : Step) → (rest : T) → Tentative T
+  taken i k x rest = record { node = i; step = Some k; total = add x rest }
 
   -- the tentative total of node i by step k, which is x and leads there as `to` says
   abbrev pub by_step : List (Option T) → (i k : ℕ) → (to : Option Move) → (x : Step) → Option (Tentative T)
-  by_step totals i k to x = taken i k x (rest_total le totals to)
-
-  -- the same where k may be no step
-  abbrev pub by_step_at : List (Option T) → (i k : ℕ) → (to : Option Move) → Option Step → Option (Tentative T)
-  by_step_at totals i k to None = None
-  by_step_at totals i k to (Some x) = by_step totals i k to x
+  by_step totals i k to x = option_map (taken i k x) (rest_total le totals to)
 
   -- the least by any step
   abbrev pub best_step : Graph → List (Option T) → (i : ℕ) → Option (Tentative T)
-  best_step g totals i = best_below le (λ k. by_step_at totals i k (g.move i k) (step_at g.steps k)) (length g.steps)
+  best_step g totals i = best_below le (λ k. option_and_then (by_step totals i k (g.move i k)) (step_at g.steps k)) (length g.steps)
 
   -- the least tentative total of a node: nothing where it ends, else by a step; none where it is settled
   abbrev pub tentative : Graph → List (Option T) → ℕ → Option (Tentative T)
