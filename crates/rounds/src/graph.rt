@@ -25,6 +25,23 @@ pub struct Graph<'a> {
     pub nodes: &'a [Node],
 }
 
+impl Graph<'_> {
+    ghost use Rattle.std.specs.Prelude.{◌≡◌};
+    ghost use Rattle.rounds.specs.Graph.{move_at, ends_at};
+
+    pub(crate) fn move_at(&self, node: usize, step: usize) -> Option<Move>
+        ensures { result ≡ move_at self.now.nodes.now node step }
+    {
+        self.nodes.get(node)?.moves.get(step).copied().flatten()
+    }
+
+    pub(crate) fn may_end(&self, node: usize) -> bool
+        ensures { result ≡ ends_at self.now.nodes.now node }
+    {
+        self.nodes.get(node).is_some_and(|node| node.ends)
+    }
+}
+
 // How a node was settled, and how many were settled before it: a procedure takes the step of this number, or ends there.
 #[derive(Clone, Copy)]
 pub struct Mark {

@@ -5,6 +5,7 @@ ghost use Rattle.rounds.specs.Rounds.{total_at};
 ghost use Rattle.rounds.specs.Settled.{Settled, Settles};
 
 use crate::graph::{Graph, Mark, Tentative};
+use crate::rounds::Round;
 use tally::Tally;
 
 // Writes down at what total a node is settled, how, and as which.
@@ -35,7 +36,12 @@ impl Graph<'_> {
     {
         // Counted by hand: over ranks in a `for` the last round would need a second exit, and a proof that none is left.
         let mut count = 0;
-        while let Some(best) = self.best_node::<T>(totals) {
+        while let Some(best) = (Round::<T> {
+            graph: *self,
+            totals,
+        })
+        .best_node()
+        {
             write_down(best, count, totals, marks);
             count += 1;
         }

@@ -7,8 +7,8 @@ use Rattle.worlds.specs.Tickets.{Ticket}
 use Rattle.tally.specs.Laws.{Laws}
 use Rattle.theory.specs.Procedures.{Belief, larger}
 use Rattle.theory.specs.Bounds.{Way, end, by_action, by_sensing, way_total, CeilingWay, FloorWay, aim_set}
-use Rattle.theory.specs.Theorems.{BoundsAreSingle, FloorIsBelow, WorkingNarrows}
-use Rattle.theory.proofs.Order.{le_equal, larger_mono, least_below, least_one}
+use Rattle.theory.specs.Theorems.{FloorIsBelow, WorkingNarrows}
+use Rattle.theory.proofs.Order.{le_equal, larger_mono, least_below}
 
 module _ {T : Type 0} {le : T → T → Bool} {nothing : T} {add : Step → T → T} (laws : Laws le nothing add) where
   -- where more sets are worked and more sets are ends, the same procedure still counts, at the same total
@@ -31,13 +31,6 @@ module _ {T : Type 0} {le : T → T → Bool} {nothing : T} {add : Step → T �
   ceiling_under t worked s p =
       let q = widened t worked worked (aim_set t) (λ r. aim_set t r || not (worked r)) (λ r h. h) (λ r h. or_left _ _ h) p in
       (q.0, le_equal laws _ _ q.1)
-
-  -- the least of either kind of procedures is one at most
-  pub bounds_are_single : BoundsAreSingle le nothing add
-  bounds_are_single t worked s b c = (
-    λ first second. least_one laws (λ p. way_total le nothing add p) b c first second,
-    λ first second. least_one laws (λ p. way_total le nothing add p) b c first second,
-  )
 
   -- so no floor is above its ceiling
   pub floor_is_below : FloorIsBelow le nothing add

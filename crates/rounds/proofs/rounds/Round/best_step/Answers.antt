@@ -11,14 +11,14 @@ use Rattle.rounds.specs.Graph.{Graph, graph_of}
 use Rattle.rounds.specs.Rounds.{best_below, by_step}
 use Rattle.rounds.proofs.Lists.{step_at_map}
 use Rattle.rounds.proofs.Chains.{best_of_chain}
-use Rattle.rounds.proofs.graph.Graph.best_step.Goals as goal
+use Rattle.rounds.proofs.rounds.Round.best_step.Goals as goal
 
 pub returns : goal.returns
 returns g c =
-    let graph : Graph = graph_of c.args.self.now (length c.args.totals.now) in
-    let steps = c.args.self.now.steps.now in
+    let graph : Graph = graph_of c.args.self.now.graph (length c.args.self.now.totals.now) in
+    let steps = c.args.self.now.graph.steps.now in
     let le = g.T.Tally.le in
-    let by = λ (k : ℕ). by_step le g.T.Tally.nothing g.T.Tally.add c.args.totals.now c.args.node k (graph.move c.args.node k) in
+    let by = λ (k : ℕ). by_step le g.T.Tally.nothing g.T.Tally.add c.args.self.now.totals.now c.args.node k (graph.move c.args.node k) in
     let try = λ (p : ℕ × code_step.Step). by p.0 (step_of p.1) in
     let rule = λ (k : ℕ). option_and_then (by k) (step_at graph.steps k) in
     best_of_chain le _ try rule (enumerate_from 0 steps) c.reduce.ensures.ran
