@@ -50,7 +50,7 @@ impl Graph<'_> {
 
     // Gives each node the least total of any procedure from it, none exactly where there is none, and marks how and as which it
     // was settled. Answers how many have a total. What the lists have beyond the nodes stays as it was.
-    // Two lists are lent, since a caller may keep working totals apart from marks; and lent, since working space is the caller's.
+    // Totals and marks are lent one by one: working space is the caller's, who may lend working totals apart from marks.
     pub fn settle<T: Tally>(&self, totals: &mut [Option<T::Total>], marks: &mut [Mark]) -> usize
         ensures { Settles T.Tally.le T.Tally.nothing T.Tally.add (graph_of self.now (nodes_in self.now.nodes.now totals.old marks.old)) totals.old marks.old totals.new marks.new result }
     {
