@@ -1,12 +1,12 @@
 -- The best of several tentative totals: one more number, and what it tells of all.
 -- Assumes nothing.
-use Rattle.std.proofs.Common.{◌≡◌, ℕ, zero, suc, ◌<◌, Bool, true, ◌⊎◌, Some, None, Option, sym, refl, ap, ◌∙◌, subst, inl, inr, not-suc-le-zero, arith}
-use Rattle.std.proofs.lemmas.Bool.{cases_Bool, cases_lt, cond-true, cond-false}
+use Rattle.std.proofs.Common.{◌≡◌, ℕ, zero, suc, ◌<◌, Bool, true, ◌⊎◌, Some, None, Option, sym, refl, ◌∙◌, subst, inl, inr, not-suc-le-zero, arith}
+use Rattle.std.proofs.lemmas.Bool.{cases_lt, cond_both}
 use Rattle.worlds.specs.Steps.{Step}
 use Rattle.tally.specs.Laws.{Laws}
 use Rattle.theory.proofs.Order.{le_self}
 use Rattle.rounds.specs.declared.graph.Tentative.{Tentative}
-use Rattle.rounds.specs.Rounds.{better, best_below}
+use Rattle.rounds.specs.Rounds.{better_of, better, best_below}
 use Rattle.std.proofs.lemmas.Option.{none-some, same_Some}
 use Rattle.rounds.proofs.Lists.{cases_some}
 
@@ -27,30 +27,25 @@ module _ {T : Type 0} {le : T → T → Bool} {nothing : T} {add : Step → T �
   better_one None b o e = inr e
   better_one (Some a) None o e = inl e
   better_one (Some a) (Some b) o e =
-      elim (cases_Bool (le a.total b.total)) [
-        | inl h ↦ inl (ap Some (sym (cond-true _ a b h)) ∙ e)
-        | inr h ↦ inr (ap Some (sym (cond-false _ a b h)) ∙ e)
-      ]
+      cond_both (le a.total b.total) a b (λ (x : Tentative T). Some x ≡ Some o → (Some a ≡ Some o) ⊎ (Some b ≡ Some o)) (λ h. inl) (λ h. inr) e
 
-  -- totals of the same tentative are at most each other
-  same_le : (a o : Tentative T) → Some a ≡ Some o → le o.total a.total ≡ true
-  same_le a o e = subst (λ (x : Tentative T). le x.total a.total ≡ true) (same_Some _ _ e) (le_self laws a.total)
+  -- what is at most a total stays so under another name
+  same_le : (a o : Tentative T) (t : T) → le a.total t ≡ true → Some a ≡ Some o → le o.total t ≡ true
+  same_le a o t h e = subst (λ (x : Tentative T). le x.total t ≡ true) (same_Some _ _ e) h
 
   better_left : (a : Tentative T) (b : Option (Tentative T)) (o : Tentative T) → better le (Some a) b ≡ Some o → le o.total a.total ≡ true
-  better_left a None o e = same_le a o e
+  better_left a None o e = same_le a o a.total (le_self laws a.total) e
   better_left a (Some b) o e =
-      elim (cases_Bool (le a.total b.total)) [
-        | inl h ↦ same_le a o (ap Some (sym (cond-true _ a b h)) ∙ e)
-        | inr h ↦ subst (λ (x : Tentative T). le x.total a.total ≡ true) (same_Some _ _ (ap Some (sym (cond-false _ a b h)) ∙ e)) (laws.total a.total b.total h)
-      ]
+      same_le (better_of le a b) o a.total
+      (cond_both (le a.total b.total) a b (λ (x : Tentative T). le x.total a.total ≡ true) (λ h. le_self laws a.total) (λ h. laws.total a.total b.total h))
+      e
 
   better_right : (a : Option (Tentative T)) (b o : Tentative T) → better le a (Some b) ≡ Some o → le o.total b.total ≡ true
-  better_right None b o e = same_le b o e
+  better_right None b o e = same_le b o b.total (le_self laws b.total) e
   better_right (Some a) b o e =
-      elim (cases_Bool (le a.total b.total)) [
-        | inl h ↦ subst (λ (x : Tentative T). le x.total b.total ≡ true) (same_Some _ _ (ap Some (sym (cond-true _ a b h)) ∙ e)) h
-        | inr h ↦ same_le b o (ap Some (sym (cond-false _ a b h)) ∙ e)
-      ]
+      same_le (better_of le a b) o b.total
+      (cond_both (le a.total b.total) a b (λ (x : Tentative T). le x.total b.total ≡ true) (λ h. h) (λ h. le_self laws b.total))
+      e
 
   -- ## Of all below n
 
