@@ -18,7 +18,7 @@ use Rattle.std.proofs.lemmas.List.{get_or-set_same, get_or-set_other, get_or_app
 use Rattle.rounds.specs.declared.graph.Graph as code_graph
 use Rattle.rounds.specs.declared.graph.Mark.{Mark}
 use Rattle.rounds.specs.Settled.{mark_at, Before, Follows, Chosen, Marked, Settled}
-use Rattle.std.proofs.lemmas.Option.{none-some, same_Some}
+use Rattle.std.proofs.lemmas.Option.{none-some, same_Some, option_and_then_some}
 use Rattle.rounds.proofs.Lists.{cases_some, some_within}
 use Rattle.rounds.proofs.Scans.{best_one}
 use Rattle.rounds.proofs.Cut.{BelowAll, best_below_all, none_left}
@@ -95,22 +95,19 @@ module _ {T : Type 0} {le : T → T → Bool} {nothing : T} {add : Step → T �
 
   by_taking : (j k : ℕ) (o : Tentative T) → j < length totals → total_at totals j ≡ None → option_and_then (by_step le nothing add totals j k (g.move j k)) (step_at g.steps k) ≡ Some o → Next o
   by_taking j k o h none e =
-      elim (cases_some (step_at g.steps k)) [
-        | inl missing ↦ absurd (none-some _ (sym (ap (option_and_then (by_step le nothing add totals j k (g.move j k))) missing) ∙ e))
-        | inr x ↦
-            let f = sym (ap (option_and_then (by_step le nothing add totals j k (g.move j k))) x.1) ∙ e in
-            elim (cases_some (rest_total le totals (g.move j k))) [
-              | inl missing ↦ absurd (none-some _ (sym (ap (option_map (taken le nothing add j k x.0)) missing) ∙ f))
-              | inr rest ↦
-                  subst (λ (n : Tentative T). Next n) (same_Some _ _ (sym (ap (option_map (taken le nothing add j k x.0)) rest.1) ∙ f))
-                  (record {
-                    within = h;
-                    ahead = none;
-                    way = way_from j k x.0 rest.0 x.1 (g.move j k) refl rest.1;
-                    account = (x.0, rest.0, x.1, follows (g.move j k) rest.0 rest.1, refl);
-                  })
-            ]
-      ]
+      option_and_then_some (by_step le nothing add totals j k (g.move j k)) (step_at g.steps k) o e
+      (λ x of_steps f.
+      elim (cases_some (rest_total le totals (g.move j k))) [
+        | inl missing ↦ absurd (none-some _ (sym (ap (option_map (taken le nothing add j k x)) missing) ∙ f))
+        | inr rest ↦
+            subst (λ (n : Tentative T). Next n) (same_Some _ _ (sym (ap (option_map (taken le nothing add j k x)) rest.1) ∙ f))
+            (record {
+              within = h;
+              ahead = none;
+              way = way_from j k x rest.0 of_steps (g.move j k) refl rest.1;
+              account = (x, rest.0, of_steps, follows (g.move j k) rest.0 rest.1, refl);
+            })
+      ])
 
   by_trying : (j : ℕ) (o : Tentative T) → j < length totals → tentative le nothing add g totals j ≡ Some o → Next o
   by_trying j o h e =
