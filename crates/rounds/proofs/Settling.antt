@@ -13,7 +13,8 @@ use Rattle.rounds.specs.declared.graph.Move.TheVariants.{Go, Fork}
 use Rattle.rounds.specs.declared.graph.Tentative.{Tentative}
 use Rattle.rounds.specs.Graph.{Graph, graph_of, NumberedWay, end, by_action, by_sensing, numbered_total}
 use Rattle.rounds.specs.Rounds.{total_at, both, rest_total, unless_settled, taken, by_step, best_step, tentative, best_node}
-use Rattle.std.proofs.lemmas.List.Sums.{sum_by-set}
+use lib.ListN.{length-set}
+use Rattle.std.proofs.lemmas.List.Sums.{sum_by-set, count_by-le-length}
 use Rattle.std.proofs.lemmas.List.{get_or-set_same, get_or-set_other, get_or_append_left}
 use Rattle.rounds.specs.declared.graph.Graph as code_graph
 use Rattle.rounds.specs.declared.graph.Mark.{Mark}
@@ -258,17 +259,32 @@ module _ {T : Type 0} {le : T → T → Bool} {nothing : T} {add : Step → T �
         subst (λ (us : List (Option T)). count_by is_some us ≡ count_by is_some totals + 1) (sym e) (settles_one o n),
       )
 
-  -- where there is nothing more to settle, all is settled
-  pub all_settled : None ≡ best_node le nothing add g totals → Settled le nothing add g totals marks count
-  all_settled none =
+  -- all is settled, where no procedure starts at a node without a total
+  settled_if : ((i : ℕ) → i < g.size → total_at totals i ≡ None → NumberedWay g i → ⊥) → Settled le nothing add g totals marks count
+  settled_if none =
       record {
         least = λ i h. each i h (total_at totals i) refl;
         marked = part.marked;
       }
     where
       each : (i : ℕ) → i < g.size → (v : Option T) → total_at totals i ≡ v → Least {P = NumberedWay g i} le (λ p. numbered_total le nothing add p) v
-      each i h None e = λ p. none_left laws g totals below_all size (sym none) i (omega arith) e p
+      each i h None e = none i h e
       each i h (Some t) e = part.settled i t h e
+
+  -- so it is where there is nothing more to settle
+  pub all_settled : None ≡ best_node le nothing add g totals → Settled le nothing add g totals marks count
+  all_settled none = settled_if (λ i h e p. none_left laws g totals below_all size (sym none) i (omega arith) e p)
+
+  -- and where as many nodes are settled as there are
+  pub all_full : {n : ℕ} → count ≡ n → n ≡ length totals → count ≡ count_by is_some totals → Settled le nothing add g totals marks n
+  all_full same full counted =
+      subst (λ (k : ℕ). Settled le nothing add g totals marks k) same
+      (settled_if (λ i h e p.
+      let one : Option T → ℕ = λ t. cond (is_some t) 1 0 in
+      let before : one (total_at totals i) ≡ 0 = ap one e in
+      let within : i < length totals = omega arith in
+      let more : List (Option T) = set totals i (Some nothing) in
+      absurd (omega (arith, sum_by-set one totals i (Some nothing) None within, before, count_by-le-length is_some more, length-set totals i (Some nothing)))))
 
 module _ {T : Type 0} {le : T → T → Bool} {nothing : T} {add : Step → T → T} where
   -- before the first round no node is settled

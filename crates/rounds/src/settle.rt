@@ -34,18 +34,17 @@ impl Graph<'_> {
         requires clear { (i : ℕ) → i < length totals.old → total_at totals.old i ≡ None }
         ensures { Settled T.Tally.le T.Tally.nothing T.Tally.add (graph_of self.now (length totals.old)) totals.new marks.new result }
     {
-        // Counted by hand: over ranks in a `for` the last round would need a second exit, and a proof that none is left.
-        let mut count = 0;
-        while let Some(best) = (Round::<T> {
-            graph: *self,
-            totals,
-        })
-        .best_node()
-        {
-            write_down(best, count, totals, marks);
-            count += 1;
+        for rank in 0..totals.len() {
+            let round = Round::<T> {
+                graph: *self,
+                totals,
+            };
+            let Some(best) = round.best_node() else {
+                return rank;
+            };
+            write_down(best, rank, totals, marks);
         }
-        count
+        totals.len()
     }
 
     // Gives each node the least total of any procedure from it, none exactly where there is none, and marks how and as which it
