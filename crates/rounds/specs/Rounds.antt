@@ -1,5 +1,5 @@
 -- One round: the tentative totals of the nodes, and the least of them.
-use Rattle.std.specs.Prelude.{if◌then◌else◌, ℕ, zero, suc, Bool, cond, List, length, Some, None, Option, option_and_then, slice_index_or}
+use Rattle.std.specs.Prelude.{if◌then◌else◌, ℕ, zero, suc, Bool, List, length, Some, None, Option, option_and_then, slice_index_or}
 use Rattle.std.specs.Option.{option_map}
 use Rattle.worlds.specs.Steps.{Step}
 use Rattle.worlds.specs.Tickets.{step_at}
@@ -63,7 +63,7 @@ module _ {T : Type 0} (le : T → T → Bool) (nothing : T) (add : Step → T �
   abbrev pub tentative : Graph → List (Option T) → ℕ → Option (Tentative T)
   tentative g totals i =
       unless_settled (total_at totals i)
-      (cond (g.ends i) (Some (record { node = i; step = None; total = nothing })) (best_step g totals i))
+      (if g.ends i then Some (record { node = i; step = None; total = nothing }) else best_step g totals i)
 
   -- the least of all nodes, which is settled in this round
   abbrev pub best_node : Graph → List (Option T) → Option (Tentative T)
