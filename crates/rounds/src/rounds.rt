@@ -15,7 +15,7 @@ fn larger_of<T: Tally>(a: T::Total, b: T::Total) -> T::Total
     if T::at_most(a, b) { b } else { a }
 }
 
-// The one with the smaller total; the earlier where they tie.
+// The one with the smaller total; the earlier where they tie. Chains call it in a closure: passed by name it gets no proof.
 fn better<T: Tally>(earlier: Tentative<T::Total>, later: Tentative<T::Total>) -> Tentative<T::Total>
     ensures { result ≡ better_of T.Tally.le earlier later }
 {

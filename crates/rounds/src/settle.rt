@@ -53,7 +53,7 @@ impl Graph<'_> {
     pub fn settle<T: Tally>(&self, totals: &mut [Option<T::Total>], marks: &mut [Mark]) -> usize
         ensures { Settles T.Tally.le T.Tally.nothing T.Tally.add (graph_of self.now (nodes_in self.now.nodes.now totals.old marks.old)) totals.old marks.old totals.new marks.new result }
     {
-        let size = self.nodes.len().min(totals.len().min(marks.len()));
+        let size = self.nodes.len().min(totals.len()).min(marks.len());
         let nodes = &mut totals[..size];
         nodes.fill(None);
         self.settle_nodes::<T>(nodes, &mut marks[..size])
