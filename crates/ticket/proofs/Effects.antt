@@ -7,43 +7,51 @@ use Rattle.worlds.specs.Worlds.{Literal, speaks_within}
 use Rattle.worlds.specs.Steps.{Effect, Outcome}
 use Rattle.worlds.specs.Tickets.{every, lawful_effect, clashes, apart}
 use Rattle.worlds.proofs.Compatible.{every_snoc, apart_snoc}
-use Rattle.records.specs.declared.part.Part.{Part}
 use Rattle.records.specs.declared.refusal.Fault.TheVariants.{Opposite}
 use Rattle.records.specs.Layout.{kind, value, below, part}
 use Rattle.worlds.specs.Meaning.{effect_of}
 use Rattle.worlds.specs.declared.step.Effect as code_effect
 use Rattle.records.specs.Content.{chain, among, literals_from, effect_at}
-use Rattle.ticket.specs.Chains.{Handed}
+use Rattle.ticket.specs.declared.node.Node.{Node}
 use Rattle.records.specs.Conflicts.{conflicts}
 use Rattle.records.specs.Judging.{Place, Judged, ended, under_effect, end_fault, at_record}
 use Rattle.ticket.specs.Gathers.{ListRead, HoldsEffects, EffectRead}
 use Rattle.records.proofs.Clashes.{conflicts_is}
 use Rattle.ticket.proofs.Records.{Passes, among_more}
 
-module _ (f : List ℕ) (n : ℕ) (ks : List ℕ) (k : ℕ) (p : Part) (h : Handed f k p) (list : List Literal) (result : ℤ) (first : ℕ) (at : first ≡ below p.bytes.now) (read : ListRead 4 f n first list) (is : result ≡ value p.bytes.now) where
+module _ (node : Node) (ks : List ℕ) (list : List Literal) (result : ℤ) (read : ListRead 4 node.file.bytes.now node.file.conditions (below node.part.bytes.now) list) (is : result ≡ value node.part.bytes.now) where
+  abbrev f : List ℕ
+  f = node.file.bytes.now
+
+  abbrev n : ℕ
+  n = node.file.conditions
+
+  abbrev k : ℕ
+  k = node.part.number
+
   abbrev pub the_effect : Effect
   the_effect = record { conditions = list; result = result }
 
   pub effect_is : the_effect ≡ effect_at f k
   effect_is =
-      let conditions = read.same ∙ ap (literals_from f) (at ∙ ap below h.bytes) in
-      let value-is = is ∙ ap value h.bytes in
+      let conditions = read.same ∙ ap (λ b. literals_from f (below b)) node.handed.bytes in
+      let value-is = is ∙ ap value node.handed.bytes in
       λ i. record { conditions = conditions i; result = value-is i }
 
-  pub effect_lawful : (standing : ℕ) → Passes n 7 4 standing false p.bytes.now → lawful_effect n the_effect ≡ true
+  pub effect_lawful : (standing : ℕ) → Passes n 7 4 standing false node.part.bytes.now → lawful_effect n the_effect ≡ true
   effect_lawful standing passed = and_from _ _ read.lawful (subst (λ l. speaks_within n l ≡ true) (sym is) passed.value_fits)
 
   -- a clash with the earlier effects, told by their literals, is the fault at the end of the effect's chain
-  module _ (earlier : Outcome) (same : earlier ≡ map (effect_at f) ks) (lawful : every (lawful_effect n) earlier ≡ true) (standing : ℕ) (passed : Passes n 7 4 standing false p.bytes.now) where
+  module _ (earlier : Outcome) (same : earlier ≡ map (effect_at f) ks) (lawful : every (lawful_effect n) earlier ≡ true) (standing : ℕ) (passed : Passes n 7 4 standing false node.part.bytes.now) where
     pub clash_is : clashes n earlier the_effect ≡ conflicts earlier the_effect
     clash_is = sym (conflicts_is n earlier the_effect lawful (effect_lawful standing passed))
 
-    pub at_the_end : (b : Bool) → conflicts earlier the_effect ≡ b → end_fault f n (under_effect ks) k (chain f first) ≡ cond b (Some Opposite) None
+    pub at_the_end : (b : Bool) → conflicts earlier the_effect ≡ b → end_fault f n (under_effect ks) k (chain f (below node.part.bytes.now)) ≡ cond b (Some Opposite) None
     at_the_end b e =
         let there : clashes n earlier the_effect ≡ clashes n (map (effect_at f) ks) (effect_at f k) = λ i. clashes n (same i) (effect_is i) in
         ap (λ c. cond c (Some Opposite) None) (sym there ∙ clash_is ∙ e)
 
-    pub ends : (b : Bool) → conflicts earlier the_effect ≡ b → Judged f n (under_effect ks) k (chain f first) 0 (at_record k (cond b (Some Opposite) None))
+    pub ends : (b : Bool) → conflicts earlier the_effect ≡ b → Judged f n (under_effect ks) k (chain f (below node.part.bytes.now)) 0 (at_record k (cond b (Some Opposite) None))
     ends b e = ended refl (ap (at_record k) (sym (at_the_end b e)))
 
 -- one effect more

@@ -1,10 +1,12 @@
 -- From what the code tests of a record to the rules of judging.
-use Rattle.std.proofs.Common.{◌≡◌, ℕ, ◌<◌, Bool, true, false, cond, not, ◌&&◌, ◌||◌, eqb, leb, List, [], ◌∷◌, ◌++◌, map, length, ℤ, is_ok, Some, None, Ok, Err, Option, Result, sym, refl, ap, ◌∙◌, subst, append-nil, arith, lit<, length-append}
+use Rattle.std.proofs.Common.{◌≡◌, ℕ, ◌<◌, Bool, true, false, cond, not, ◌&&◌, ◌||◌, eqb, leb, List, [], ◌∷◌, ◌++◌, map, length, is_ok, is_some, Some, None, Ok, Err, Option, Result, MatchResult, sym, refl, ap, ◌∙◌, subst, append-nil, arith, length-append}
 use lib.ListN.{length-map}
 use Rattle.std.proofs.lemmas.List.{map-append}
 use Rattle.std.proofs.lemmas.Bool.{cond-true, or_parts, and_parts, and_from, and_left, eqb-true, leb-false, le-leb, not-false}
 use Rattle.std.proofs.lemmas.List.Elements.{filter-append}
 use Rattle.std.proofs.lemmas.Bool.Decides.{nat_tests}
+use Rattle.std.specs.Int.{from_bool}
+use Rattle.std.specs.Option.{option_to_list}
 use Rattle.worlds.specs.Worlds.{Literal, opposite, has_literal, speaks_within, consistent}
 use Rattle.worlds.specs.Tickets.{every, lawful_list}
 use Rattle.worlds.proofs.Compatible.{every_snoc, consistent_snoc}
@@ -14,14 +16,15 @@ use Rattle.records.specs.declared.kinds.Record.TheVariants as shows
 use Rattle.records.specs.declared.refusal.Refusal.{Refusal}
 use Rattle.records.specs.declared.refusal.Fault.{Fault}
 use Rattle.records.specs.declared.refusal.Fault.TheVariants.{Kind, Value, Opposite, Limit}
-use Rattle.records.specs.Kinds.{shown}
+use Rattle.records.specs.Kinds.{recognised}
 use Rattle.records.specs.Layout.{kind, value, below, part, links_good, group}
 use Rattle.records.specs.Content.{among, literals_among, literal_at}
-use Rattle.ticket.specs.Chains.{Handed}
-use Rattle.records.specs.Judging.{Place, room, under, bare, class_good, value_good, fault_of, opposed, fault_as, record_fault, Judged, ended, faulty, faulty_below, under_literal, under_outcome, under_action, under_sensing, at_top, verdict}
+use Rattle.ticket.specs.declared.node.Node.{Node}
+use Rattle.ticket.specs.Nodes.{Stands}
+use Rattle.records.specs.Judging.{Place, room, under, bare, value_good, fault_of, opposed, fault_as, record_fault, Judged, ended, faulty, faulty_below, under_literal, under_list, under_effect, under_outcome, under_action, under_sensing, at_top, verdict}
 use Rattle.ticket.specs.Drafts.{Sound, Added}
 
--- the kind that a record is shown as (0: unknown), and its part
+-- the kind that a record is shown as (0: unknown)
 abbrev pub tag : Record → ℕ
 tag (shows.Term p) = 1
 tag (shows.Aim p) = 2
@@ -33,29 +36,49 @@ tag (shows.Effect p) = 7
 tag (shows.SensedLiteral p) = 8
 tag (shows.Unknown p) = 0
 
-abbrev pub held : Record → Part
-held (shows.Term p) = p
-held (shows.Aim p) = p
-held (shows.Action p) = p
-held (shows.Sensing p) = p
-held (shows.Literal p) = p
-held (shows.Outcome p) = p
-held (shows.Effect p) = p
-held (shows.SensedLiteral p) = p
-held (shows.Unknown p) = p
+abbrev pub tag_of : Result Record Refusal → ℕ
+tag_of (Ok r) = tag r
+tag_of (Err e) = 0
 
--- a record is shown with its part, and as its kind
-pub shown_held : (kd : ℕ) (p : Part) → held (shown kd p) ≡ p
-shown_held kd p = grind (arith, nat_tests)
+-- a record is recognised as its kind
+recognised_tag : (kd : ℕ) (p : Part) → 0 < tag_of (recognised kd p) → kd ≡ tag_of (recognised kd p)
+recognised_tag kd p h = grind (arith, nat_tests)
 
-pub shown_tag : (kd : ℕ) (p : Part) → 0 < tag (shown kd p) → kd ≡ tag (shown kd p)
-shown_tag kd p h = grind (arith, nat_tests)
+pub kind_is : (kd : ℕ) (p : Part) (r s : Record) → Ok r ≡ recognised kd p → r ≡ s → 0 < tag s → kd ≡ tag s
+kind_is kd p r s e is some =
+    let tags = ap tag (sym is) ∙ ap tag_of e in
+    recognised_tag kd p (subst (λ j. 0 < j) tags some) ∙ sym tags
 
-pub held_is : (kd : ℕ) (p : Part) (r : Record) → r ≡ shown kd p → held r ≡ p
-held_is kd p r e = ap held e ∙ shown_held kd p
+-- what a part of the kind kd is recognised as, if at all
+abbrev pub or_else : Record → Result Record Refusal → Record
+or_else r (Ok q) = q
+or_else r (Err e) = r
 
-pub kind_is : (kd : ℕ) (p : Part) (r : Record) → r ≡ shown kd p → 0 < tag r → kd ≡ tag r
-kind_is kd p r e some = shown_tag kd p (subst (λ (x : Record). 0 < tag x) e some) ∙ ap tag (sym e)
+abbrev pub as_kind : Part → Record → ℕ → Record
+as_kind p r kd = or_else r (recognised kd p)
+
+pub shows_kind : (kd d : ℕ) (p : Part) (r : Record) → Ok r ≡ recognised kd p → kd ≡ d → r ≡ as_kind p r d
+shows_kind kd d p r e is = ap (or_else r) e ∙ ap (as_kind p r) is
+
+-- a kind that no record has stands nowhere
+unrecognised_is : (kd : ℕ) (p : Part) → tag_of (recognised kd p) ≡ 0 → recognised kd p ≡ Err (record { fault = Kind; «record» = p.number })
+unrecognised_is kd p h = grind (arith, nat_tests)
+
+no_room_unrecognised : (place : Place) (kd : ℕ) (p : Part) → tag_of (recognised kd p) ≡ 0 → room place (group kd) ≡ 0
+no_room_unrecognised at_top kd p h = grind (arith, nat_tests)
+no_room_unrecognised under_list kd p h = grind (arith, nat_tests)
+no_room_unrecognised under_action kd p h = grind (arith, nat_tests)
+no_room_unrecognised under_sensing kd p h = grind (arith, nat_tests)
+no_room_unrecognised under_outcome kd p h = grind (arith, nat_tests)
+no_room_unrecognised (under_effect earlier) kd p h = grind (arith, nat_tests)
+no_room_unrecognised under_literal kd p h = refl
+
+err_is : {X : Type 0} {r q : Refusal} → ◌≡◌ {A = Result X Refusal} (Err r) (Err q) → r ≡ q
+err_is {X} {r} h = ap (fault_or r) h
+  where
+    fault_or : Refusal → Result X Refusal → Refusal
+    fault_or r (Ok x) = r
+    fault_or r (Err q) = q
 
 -- no answer is both
 some_none : {X : Type 0} {x : X} → ◌≡◌ {A = Option X} (Some x) None → ⊥
@@ -63,6 +86,10 @@ some_none h = let z : ◌≡◌ {A = ℕ} 0 1 = cc in omega arith
 
 ok_err : {X Y : Type 0} {x : X} {y : Y} → ◌≡◌ {A = Result X Y} (Ok x) (Err y) → ⊥
 ok_err h = let z : ◌≡◌ {A = ℕ} 0 1 = cc in omega arith
+
+-- what is no error stays so where the error is mapped
+pub ok_stays : {T X D : Type 0} (bad : X → Type 0) (v : Result T X) (r : Result T D) (x : T) → v ≡ Ok x → MatchResult v (λ y. r ≡ Ok y) bad → r ≡ Ok x
+ok_stays bad v r x e m = subst (λ w. MatchResult w (λ y. r ≡ Ok y) bad) e m
 
 -- what a record without fault of its own has passed
 pub record Passes (n kd most standing : ℕ) (over : Bool) (r : List ℕ) : Type 0 where
@@ -87,13 +114,6 @@ module _ (f : List ℕ) (n : ℕ) (place : Place) (earlier : List ℕ) (k : ℕ)
   -- the fault of a record of known kind with good links
   pub fault_at : (kd : ℕ) → links_good f k ≡ true → kind (part f k) ≡ kd → record_fault f n place earlier k ≡ fault_of n kd (room place (group kd)) (length (among f (group kd) earlier)) (opposed f earlier kd (part f k)) (part f k)
   fault_at kd links e = ap (fault_as f n place earlier k) e ∙ cond-true (links_good f k) _ _ links
-
-  -- a kind that cannot stand at the place
-  pub wrong_kind : (p : Part) → Handed f k p → room place (group (kind p.bytes.now)) ≡ 0 → (r : Refusal) → r ≡ record { fault = Kind; «record» = k } → (above : ℕ) → Judged f n place above earlier k (Some r)
-  wrong_kind p h none r e above =
-      let gone : room place (group (kind (part f k))) ≡ 0 = ap (λ b. room place (group (kind b))) (sym h.bytes) ∙ none in
-      let first : (leb (room place (group (kind (part f k)))) 0 || (bare (kind (part f k)) && not (eqb (below (part f k)) 0))) ≡ true = rw gone refl in
-      faulty Kind h.some (fault_at _ h.links refl ∙ cond-true _ _ _ first) (ap Some e)
 
   -- the record's own fault is the answer
   pub itself_faulty : (own : Option Fault) → record_fault f n place earlier k ≡ own → 0 < k → (r : Refusal) → Err r ≡ verdict k own → (above : ℕ) → Judged f n place above earlier k (Some r)
@@ -120,6 +140,22 @@ module _ (f : List ℕ) (n : ℕ) (place : Place) (earlier : List ℕ) (k : ℕ)
         itself = h;
         chain_under = subst (λ q. Judged f n q k [] (below (part f k)) None) (sym (ap (λ d. under d earlier) e ∙ where-under)) (ended (eqb-true _ 0 empty) refl);
       }
+
+module _ (node : Node) (place : Place) (earlier : List ℕ) where
+  -- a kind that cannot stand at the place
+  pub wrong_kind : room place (group (kind node.part.bytes.now)) ≡ 0 → (r : Refusal) → r ≡ record { fault = Kind; «record» = node.part.number } → (above : ℕ) → Judged node.file.bytes.now node.file.conditions place above earlier node.part.number (Some r)
+  wrong_kind none r e above =
+      let f = node.file.bytes.now in
+      let k = node.part.number in
+      let h = node.handed in
+      let gone : room place (group (kind (part f k))) ≡ 0 = ap (λ b. room place (group (kind b))) (sym h.bytes) ∙ none in
+      let first : (leb (room place (group (kind (part f k)))) 0 || (bare (kind (part f k)) && not (eqb (below (part f k)) 0))) ≡ true = rw gone refl in
+      faulty Kind h.some (fault_at f _ place earlier k _ h.links refl ∙ cond-true _ _ _ first) (ap Some e)
+
+  pub unrecognised : (r : Refusal) → Err r ≡ recognised (kind node.part.bytes.now) node.part → (above : ℕ) → Judged node.file.bytes.now node.file.conditions place above earlier node.part.number (Some r)
+  unrecognised r e =
+      let none = sym (ap tag_of e) in
+      wrong_kind (no_room_unrecognised place (kind node.part.bytes.now) node.part none) r (err_is (e ∙ unrecognised_is (kind node.part.bytes.now) node.part none))
 
 -- one record more of a group, or of another
 module _ (f : List ℕ) (ks : List ℕ) (k kd : ℕ) (e : kind (part f k) ≡ kd) where
@@ -174,21 +210,15 @@ module _ (f : List ℕ) (n : ℕ) (place : Place) (earlier : List ℕ) (k most :
         }),
       )
 
-  -- the same, as the code says it: of the part q that is shown as a literal
-  pub literal_added : (is : List ℕ → Type 0) (r : Result (Unit {0}) Refusal) (p q : Part) → Handed f k p → shows.Literal q ≡ shown (kind p.bytes.now) p → room place 5 ≡ most → list ≡ literals_among f earlier → lawful_list n most list ≡ true → r ≡ verdict q.number (fault_of n 5 most (length list) (has_literal (opposite (value q.bytes.now)) list) q.bytes.now) → after ≡ cond (is_ok r) (list ++ value q.bytes.now ∷ []) list → (Longer → is (earlier ++ k ∷ [])) → Added f n place earlier k is r
-  literal_added is r p q h shows-it space same lawful answer items on =
-      let e = held_is (kind p.bytes.now) p _ shows-it in
-      let bytes : q.bytes.now ≡ part f k = ap (λ (x : Part). x.bytes.now) e ∙ h.bytes in
-      let number : q.number ≡ k = ap (λ (x : Part). x.number) e ∙ h.number in
-      let five : kind (part f k) ≡ 5 = ap kind (sym h.bytes) ∙ kind_is (kind p.bytes.now) p _ shows-it (lit< tt) in
-      literal_answer is r h.some h.links five space same lawful
-      (answer ∙ (λ i. verdict (number i) (fault_of n 5 most (length list) (has_literal (opposite (value (bytes i))) list) (bytes i))))
-      (items ∙ (λ i. cond (is_ok r) (list ++ value (bytes i) ∷ []) list))
-      on
-
--- a part that is not shown as a literal, at a place for literals only
-pub not_literal : (p : Part) → ((q : Part) → shown (kind p.bytes.now) p ≡ shows.Literal q → ⊥) → kind p.bytes.now ≡ 5 → ⊥
-not_literal p never e = never p (ap (λ d. shown d p) e)
+-- the same, as the code says it
+pub literal_added : (node : Node) (place : Place) (earlier : List ℕ) (most : ℕ) (list after : List Literal) (is : List ℕ → Type 0) (r : Result (Unit {0}) Refusal) → kind node.part.bytes.now ≡ 5 → room place 5 ≡ most → list ≡ literals_among node.file.bytes.now earlier → lawful_list node.file.conditions most list ≡ true → r ≡ verdict node.part.number (fault_of node.file.conditions 5 most (length list) (has_literal (opposite (value node.part.bytes.now)) list) node.part.bytes.now) → after ≡ cond (is_ok r) (list ++ value node.part.bytes.now ∷ []) list → (Longer node.file.bytes.now node.file.conditions place earlier node.part.number most list after → is (earlier ++ node.part.number ∷ [])) → Added node.file.bytes.now node.file.conditions place earlier node.part.number is r
+literal_added node place earlier most list after is r five space same lawful answer items on =
+    let h = node.handed in
+    let bytes = h.bytes in
+    literal_answer _ _ place earlier node.part.number most list after is r h.some h.links (ap kind (sym bytes) ∙ five) space same lawful
+    (answer ∙ (λ i. verdict node.part.number (fault_of node.file.conditions 5 most (length list) (has_literal (opposite (value (bytes i))) list) (bytes i))))
+    (items ∙ (λ i. cond (is_ok r) (list ++ value (bytes i) ∷ []) list))
+    on
 
 pub other_group : (kd : ℕ) → (kd ≡ 5 → ⊥) → eqb (group kd) 5 ≡ false
 other_group kd h = grind (arith, nat_tests)
@@ -198,38 +228,50 @@ pub lawful_none : (n most : ℕ) (list : List Literal) → list ≡ [] → lawfu
 lawful_none n most list e = rw e (and_from _ _ (le-leb 0 most (omega arith)) refl)
 
 -- a record with a chain under it, as the code goes about it: first the record by itself, then the chain
-module _ (f : List ℕ) (n : ℕ) (place : Place) (earlier : List ℕ) (k : ℕ) (p : Part) (h : Handed f k p) (kd most standing : ℕ) (e : kind p.bytes.now ≡ kd) (space : room place (group kd) ≡ most) (count : length (among f (group kd) earlier) ≡ standing) (other : eqb kd 5 ≡ false) where
+module _ (node : Node) (place : Place) (earlier : List ℕ) (kd most standing : ℕ) (s : Stands node place earlier kd most standing) where
+  abbrev f : List ℕ
+  f = node.file.bytes.now
+
+  abbrev n : ℕ
+  n = node.file.conditions
+
+  abbrev k : ℕ
+  k = node.part.number
+
+  abbrev bytes : List ℕ
+  bytes = node.part.bytes.now
+
   -- the fault that the code looks for
   abbrev pub sought : Option Fault
-  sought = fault_of n (kind p.bytes.now) most standing false p.bytes.now
+  sought = fault_of n (kind bytes) most standing false bytes
 
   kind_here : kind (part f k) ≡ kd
-  kind_here = ap kind (sym h.bytes) ∙ e
+  kind_here = ap kind (sym node.handed.bytes) ∙ s.kind_is
 
   sought_is : record_fault f n place earlier k ≡ sought
   sought_is =
-      let free : opposed f earlier kd (part f k) ≡ false = and_left _ _ other in
-      let back = sym e in
-      let bytes = sym h.bytes in
-      fault_at f n place earlier k kd h.links kind_here ∙ (λ i. fault_of n (back i) (space i) (count i) (free i) (bytes i))
+      let free : opposed f earlier kd (part f k) ≡ false = and_left _ _ s.no_literal in
+      let back = sym s.kind_is in
+      let there = sym node.handed.bytes in
+      fault_at f n place earlier k kd node.handed.links kind_here ∙ (λ i. fault_of n (back i) (s.space i) (s.count i) (free i) (there i))
 
-  pub own_broke : (r : Refusal) → Err r ≡ verdict p.number sought → (above : ℕ) → Judged f n place above earlier k (Some r)
-  own_broke r v = itself_faulty f n place earlier k sought sought_is h.some r (v ∙ ap (λ j. verdict j sought) h.number)
+  pub own_broke : (r : Refusal) → Err r ≡ verdict k sought → (above : ℕ) → Judged f n place above earlier k (Some r)
+  own_broke r v = itself_faulty f n place earlier k sought sought_is node.handed.some r v
 
-  pub own_passed : (u : Unit {0}) → Ok u ≡ verdict p.number sought → (record_fault f n place earlier k ≡ None) × Passes n kd most standing false p.bytes.now
+  pub own_passed : (u : Unit {0}) → Ok u ≡ verdict k sought → (record_fault f n place earlier k ≡ None) × Passes n kd most standing false bytes
   own_passed u v =
-      let clean = itself_sound f n place earlier k sought sought_is u (v ∙ ap (λ j. verdict j sought) h.number) in
-      (sought_is ∙ clean, subst (λ d. Passes n d most standing false p.bytes.now) e (passes _ _ _ _ _ _ clean))
+      let clean = itself_sound f n place earlier k sought sought_is u v in
+      (sought_is ∙ clean, subst (λ d. Passes n d most standing false bytes) s.kind_is (passes _ _ _ _ _ _ clean))
 
-  -- the chain under it, which the code reads from `first` on
-  pub below_broke : record_fault f n place earlier k ≡ None → (first : ℕ) → first ≡ below p.bytes.now → (r : Refusal) → Judged f n (under kd earlier) k [] first (Some r) → (above : ℕ) → Judged f n place above earlier k (Some r)
-  below_broke clean first at r d above = faulty_below r h.some clean (subst (λ q. Judged f n q k [] (below (part f k)) (Some r)) (ap (λ j. under j earlier) (sym kind_here)) (subst (λ j. Judged f n (under kd earlier) k [] j (Some r)) (at ∙ ap below h.bytes) d)) refl
+  -- the chain under it
+  pub below_broke : record_fault f n place earlier k ≡ None → (r : Refusal) → Judged f n (under kd earlier) k [] (below bytes) (Some r) → (above : ℕ) → Judged f n place above earlier k (Some r)
+  below_broke clean r d above = faulty_below r node.handed.some clean (subst (λ q. Judged f n q k [] (below (part f k)) (Some r)) (ap (λ j. under j earlier) (sym kind_here)) (subst (λ j. Judged f n (under kd earlier) k [] j (Some r)) (ap below node.handed.bytes) d)) refl
 
-  pub below_sound : record_fault f n place earlier k ≡ None → (first : ℕ) → first ≡ below p.bytes.now → Judged f n (under kd earlier) k [] first None → Sound f n place earlier k
-  below_sound clean first at d =
+  pub below_sound : record_fault f n place earlier k ≡ None → Judged f n (under kd earlier) k [] (below bytes) None → Sound f n place earlier k
+  below_sound clean d =
       record {
         itself = clean;
-        chain_under = subst (λ q. Judged f n q k [] (below (part f k)) None) (ap (λ j. under j earlier) (sym kind_here)) (subst (λ j. Judged f n (under kd earlier) k [] j None) (at ∙ ap below h.bytes) d);
+        chain_under = subst (λ q. Judged f n q k [] (below (part f k)) None) (ap (λ j. under j earlier) (sym kind_here)) (subst (λ j. Judged f n (under kd earlier) k [] j None) (ap below node.handed.bytes) d);
       }
 
 -- what kinds cannot stand where
@@ -246,29 +288,12 @@ pub no_room_top : (kd : ℕ) → (kd ≡ 1 → ⊥) → (kd ≡ 2 → ⊥) → (
 no_room_top kd a b c d = grind (arith, nat_tests)
 
 -- a record that passed leaves room for itself
-pub room_left : (n kd most standing k : ℕ) (r : List ℕ) (u : Unit {0}) → Ok u ≡ verdict k (fault_of n kd most standing false r) → standing < most
-room_left n kd most standing k r u v = leb-false most standing (passes n kd most standing false r (no_fault (fault_of n kd most standing false r) v)).space
+pub passed_room : (n kd most standing k : ℕ) (r : List ℕ) (u : Unit {0}) → Ok u ≡ verdict k (fault_of n kd most standing false r) → standing < most
+passed_room n kd most standing k r u v = leb-false most standing (passes n kd most standing false r (no_fault (fault_of n kd most standing false r) v)).space
   where
     no_fault : (own : Option Fault) → Ok u ≡ verdict k own → own ≡ None
     no_fault None e = refl
     no_fault (Some x) e = absurd (ok_err e)
-
--- the part q that a record is shown with is the part p that was handed out
-pub record Inner (f : List ℕ) (p q : Part) (kd : ℕ) : Type 0 where
-  pub same : q ≡ p
-  pub handed : Handed f q.number q
-  pub kind_there : kind q.bytes.now ≡ kd
-  pub kind_here : kind (part f q.number) ≡ kd
-
-pub inner : (f : List ℕ) (p : Part) (r : Record) → Handed f p.number p → r ≡ shown (kind p.bytes.now) p → 0 < tag r → Inner f p (held r) (tag r)
-inner f p r handed e some =
-    let same = held_is (kind p.bytes.now) p r e in
-    let own = subst (λ (x : Part). Handed f x.number x) (sym same) handed in
-    let there = ap (λ (x : Part). kind x.bytes.now) same ∙ kind_is (kind p.bytes.now) p r e some in
-    record { same = same; handed = own; kind_there = there; kind_here = ap kind (sym own.bytes) ∙ there }
-
-pub added_there : (f : List ℕ) (n : ℕ) (place : Place) (ks : List ℕ) (p q : Part) (is : List ℕ → Type 0) (r : Result (Unit {0}) Refusal) → q ≡ p → Added f n place ks q.number is r → Added f n place ks p.number is r
-added_there f n place ks p q is r e = subst (λ (x : Part). Added f n place ks x.number is r) e
 
 -- counting what was gathered so far
 pub counted : {X Y : Type 0} (f : List ℕ) (g : ℕ) (ks : List ℕ) (at : ℕ → Y) (of : X → Y) (xs : List X) → map of xs ≡ map at (among f g ks) → length (among f g ks) ≡ length xs
@@ -283,9 +308,7 @@ nil_from_length (x ∷ xs) h = absurd (omega arith)
 pub step_group : (kd : ℕ) → eqb (group kd) 3 ≡ true → (group kd ≡ 3) × (eqb kd 5 ≡ false)
 step_group kd h = (eqb-true (group kd) 3 h, grind (arith, nat_tests))
 
--- the value of a step that passed is a class
-pub step_class : (n kd most standing : ℕ) (over : Bool) (r : List ℕ) → eqb (group kd) 3 ≡ true → Passes n kd most standing over r → class_good (value r) ≡ true
-step_class n kd most standing over r h p = step_value n kd (value r) h p.value_fits
-  where
-    step_value : (n kd : ℕ) (v : ℤ) → eqb (group kd) 3 ≡ true → value_good n kd v ≡ true → class_good v ≡ true
-    step_value n kd v h e = grind (arith, nat_tests)
+-- how many there are of what may stand once
+pub how_many : {X : Type 0} (one : Option X) (there : Bool) (m : ℕ) → there ≡ is_some one → m ≡ from_bool there → m ≡ length (option_to_list one)
+how_many None there m e h = h ∙ ap from_bool e
+how_many (Some x) there m e h = h ∙ ap from_bool e

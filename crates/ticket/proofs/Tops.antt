@@ -1,5 +1,5 @@
 -- One record more of the top chain.
-use Rattle.std.proofs.Common.{◌≡◌, ℕ, Bool, true, cond, ◌||◌, eqb, leb, List, [], ◌∷◌, ◌++◌, map, length, Some, None, Ok, Err, Result, sym, refl, ap, ◌∙◌, subst, arith, length-append}
+use Rattle.std.proofs.Common.{◌≡◌, ℕ, ◌<◌, Bool, true, cond, ◌||◌, eqb, leb, List, [], ◌∷◌, ◌++◌, map, length, Some, None, Ok, Err, Result, sym, refl, ap, ◌∙◌, subst, arith, length-append}
 use lib.ListN.{length-map}
 use Rattle.std.proofs.lemmas.Bool.{le-leb, eqb-true}
 use Rattle.worlds.specs.Worlds.{Literal}
@@ -12,8 +12,20 @@ use Rattle.records.specs.Content.{among, list_at, step_at}
 use Rattle.records.specs.Judging.{Place, Judged, at_top, end_fault}
 use Rattle.records.specs.declared.refusal.Fault.TheVariants.{Missing}
 use Rattle.ticket.specs.Drafts.{Added, Sound}
-use Rattle.ticket.specs.Gathers.{HoldsTop, AddsTop, TopAdded}
+use Rattle.ticket.specs.Gathers.{HoldsTop}
 use Rattle.ticket.proofs.Records.{gathers_more, gathers_same}
+
+-- what adding one of the top chain's records answers, after the records ks: `was` becomes `is` by what the record holds,
+-- which passes the test `law`; there is room for it
+pub record TopAdded {X : Type 0} (f : List ℕ) (n : ℕ) (ks : List ℕ) (k : ℕ) (held : X) (law : X → Bool) (most : ℕ) (was is : List X) : Type 0 where
+  pub sound : Sound f n at_top ks k
+  pub longer : is ≡ was ++ held ∷ []
+  pub lawful : law held ≡ true
+  pub room_left : length was < most
+
+abbrev pub AddsTop : {X : Type 0} → List ℕ → ℕ → List ℕ → ℕ → X → (X → Bool) → ℕ → List X → List X → Result (Unit {0}) Refusal → Type 0
+AddsTop f n ks k held law most was is (Ok u) = TopAdded f n ks k held law most was is
+AddsTop f n ks k held law most was is (Err r) = (above : ℕ) → Judged f n at_top above ks k (Some r)
 
 -- the longer list: what it holds, that it is not too long, and that all of it is lawful
 module _ {X : Type 0} (f : List ℕ) (n : ℕ) (ks : List ℕ) (k kd : ℕ) (e : kind (part f k) ≡ kd) (g : ℕ) (of-group : eqb (group kd) g ≡ true) (at : ℕ → X) (law : X → Bool) (most : ℕ) (was is : List X) (a : TopAdded f n ks k (at k) law most was is) where

@@ -2,7 +2,7 @@
 use Rattle.std.proofs.Common.{◌≡◌, ℕ, zero, suc, ◌+◌, ◌-◌, ◌*◌, ◌<◌, ◌≤◌, true, false, cond, eqb, ltb, ◌⊎◌, List, [], ◌∷◌, ◌++◌, length, Some, Ok, Option, sym, refl, ap, ◌∙◌, subst, inl, inr, append_assoc, append-nil, arith}
 use Rattle.std.proofs.lemmas.Bool.{or_cases, and_parts, eqb-true, ne_eqb, cond-false, ltb-true, leb-true}
 use Rattle.records.specs.declared.refusal.Refusal.{Refusal}
-use Rattle.records.specs.Layout.{part, next, below, inside, leads_on, links_good}
+use Rattle.records.specs.Layout.{part, next, inside, leads_on, links_good}
 use Rattle.records.specs.Content.{followed, chain}
 use Rattle.records.specs.Judging.{Place, Judged, onward, faulty}
 use Rattle.records.specs.declared.refusal.Fault.TheVariants.{Link}
@@ -31,9 +31,6 @@ link_cases f k j h = elim (or_cases _ _ h) [
 
 pub next_cases : (f : List ℕ) (k : ℕ) → links_good f k ≡ true → (next (part f k) ≡ 0) ⊎ ((k < next (part f k)) × (8 * next (part f k) + 8 ≤ length f))
 next_cases f k h = link_cases f k _ (and_parts _ _ h).1
-
-pub below_cases : (f : List ℕ) (k : ℕ) → links_good f k ≡ true → (below (part f k) ≡ 0) ⊎ ((k < below (part f k)) × (8 * below (part f k) + 8 ≤ length f))
-below_cases f k h = link_cases f k _ (and_parts _ _ h).0
 
 -- each record with good links brings the end nearer
 pub nearer : (f : List ℕ) (k j : ℕ) → 0 < k → 8 * k + 8 ≤ length f → links_good f k ≡ true → j ≡ next (part f k) → left f j < left f k

@@ -29,3 +29,15 @@ abbrev pub Reads : {X : Type 0} → List ℕ → ℕ → Place → ℕ → (X �
 Reads f n place k is (Ok x) =
     is x × ((above : ℕ) (v : Option Refusal) → Judged f n place above (chain f k) 0 v → Judged f n place above [] k v)
 Reads f n place k is (Err r) = (above : ℕ) → Judged f n place above [] k (Some r)
+
+-- what reading the chain from record k into a value answers, with its end, at a place under the record `above`: the value
+-- is what the chain holds, as `is` says, and there is no fault, or the first fault
+abbrev pub ReadsWhole : {X : Type 0} → List ℕ → ℕ → Place → ℕ → ℕ → (X → Type 0) → Result X Refusal → Type 0
+ReadsWhole f n place above k is (Ok x) = is x × Judged f n place above [] k None
+ReadsWhole f n place above k is (Err r) = Judged f n place above [] k (Some r)
+
+-- what reading record k, with all that is under it, into a value answers, after the records `earlier` of its chain: nothing
+-- is at fault and the value is as `is` says, or the first fault
+abbrev pub ReadsRecord : {X : Type 0} → List ℕ → ℕ → Place → List ℕ → ℕ → (X → Type 0) → Result X Refusal → Type 0
+ReadsRecord f n place earlier k is (Ok x) = Sound f n place earlier k × is x
+ReadsRecord f n place earlier k is (Err r) = (above : ℕ) → Judged f n place above earlier k (Some r)

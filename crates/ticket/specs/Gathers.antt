@@ -1,5 +1,5 @@
 -- What each draft holds of the records that were added to it.
-use Rattle.std.specs.Prelude.{◌≡◌, ℕ, ◌<◌, Bool, true, false, cond, List, [], ◌∷◌, ◌++◌, map, length, Some, None, Ok, Err, Result, ◌==◌, nat_le}
+use Rattle.std.specs.Prelude.{◌≡◌, ℕ, ◌<◌, true, false, cond, List, [], ◌∷◌, ◌++◌, map, length, Some, None, Ok, Err, Result, ◌==◌, nat_le}
 use Rattle.worlds.specs.Worlds.{Literal, speaks_within}
 use Rattle.worlds.specs.Steps.{Effect, Outcome, Step}
 use Rattle.worlds.specs.Tickets.{lawful_list, lawful_effect, lawful_outcome, lawful_step, clashes, every}
@@ -10,9 +10,13 @@ use Rattle.records.specs.Content.{chain, among, literals_among, literals_from, e
 use Rattle.records.specs.Judging.{Place, room, under_outcome, under_action, under_sensing, at_top, Judged}
 use Rattle.ticket.specs.Drafts.{Sound}
 
--- a chain at a place that takes up to so many literals and nothing else: the list has the literals of its records
+-- a chain at this place takes up to so many literals and nothing else
+abbrev pub TakesLiterals : ℕ → Place → Type 0
+TakesLiterals most place = (g : ℕ) → room place g ≡ cond (g == 5) most 0
+
+-- a chain of literals: the list has the literals of its records
 pub record HoldsLiterals (most : ℕ) (list : List Literal) (f : List ℕ) (n : ℕ) (place : Place) (ks : List ℕ) : Type 0 where
-  pub only : (g : ℕ) → room place g ≡ cond (g == 5) most 0
+  pub only : TakesLiterals most place
   pub same : list ≡ literals_among f ks
   pub lawful : lawful_list n most list ≡ true
 
@@ -67,12 +71,6 @@ abbrev pub AddsOutcome : List ℕ → ℕ → List ℕ → ℕ → List Outcome 
 AddsOutcome f n ks k was is (Ok u) = OutcomeAdded f n ks k was is
 AddsOutcome f n ks k was is (Err r) = (above : ℕ) → Judged f n under_action above ks k (Some r)
 
--- what reading the chain from record k into a value answers, with its end, at a place under the record `above`: the value
--- is what the chain holds, as `is` says, and there is no fault, or the first fault
-abbrev pub ReadsWhole : {X : Type 0} → List ℕ → ℕ → Place → ℕ → ℕ → (X → Type 0) → Result X Refusal → Type 0
-ReadsWhole f n place above k is (Ok x) = is x × Judged f n place above [] k None
-ReadsWhole f n place above k is (Err r) = Judged f n place above [] k (Some r)
-
 -- a step that was read is the one that its chain holds
 pub record StepRead (n : ℕ) (held s : Step) : Type 0 where
   pub same : s ≡ held
@@ -108,18 +106,6 @@ pub record HoldsTop (terms aims : List (List Literal)) (steps : List Step) (f : 
   pub steps_same : steps ≡ map (step_at f) (among f 3 ks)
   pub steps_few : nat_le (length steps) 32 ≡ true
   pub steps_lawful : every (lawful_step n) steps ≡ true
-
--- what adding one of the top chain's records answers, after the records ks: `was` becomes `is` by what the record holds,
--- which passes the test `law`; there is room for it
-pub record TopAdded {X : Type 0} (f : List ℕ) (n : ℕ) (ks : List ℕ) (k : ℕ) (held : X) (law : X → Bool) (most : ℕ) (was is : List X) : Type 0 where
-  pub sound : Sound f n at_top ks k
-  pub longer : is ≡ was ++ held ∷ []
-  pub lawful : law held ≡ true
-  pub room_left : length was < most
-
-abbrev pub AddsTop : {X : Type 0} → List ℕ → ℕ → List ℕ → ℕ → X → (X → Bool) → ℕ → List X → List X → Result (Unit {0}) Refusal → Type 0
-AddsTop f n ks k held law most was is (Ok u) = TopAdded f n ks k held law most was is
-AddsTop f n ks k held law most was is (Err r) = (above : ℕ) → Judged f n at_top above ks k (Some r)
 
 -- what filling the contents from the top chain, which starts at record k, answers
 pub record Filled (f : List ℕ) (n k : ℕ) (terms aims : List (List Literal)) (steps : List Step) : Type 0 where

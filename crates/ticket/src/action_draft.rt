@@ -1,85 +1,64 @@
 // The precondition and the outcomes of the chain under an action.
-ghost use Rattle.std.specs.Prelude.{◌≡◌, ℕ, ◌≤◌, true, List, map};
+ghost use Rattle.std.specs.Prelude.{◌≡◌, ℕ, true, List, map, unsigned_abs};
 ghost use Rattle.worlds.specs.Meaning.{listed, outcome_of, step_of};
-ghost use Rattle.records.specs.Layout.{inside, below, kind};
+ghost use Rattle.records.specs.Layout.{kind, value, below};
 ghost use Rattle.records.specs.Content.{chain, among, outcome_at, action_from};
-ghost use Rattle.ticket.specs.Chains.{Handed};
-ghost use Rattle.records.specs.Judging.{under_action};
-ghost use Rattle.ticket.specs.Gathers.{HoldsAction, AddsOutcome, ReadsWhole, StepRead};
+ghost use Rattle.records.specs.Judging.{class_good, under_action};
+ghost use Rattle.ticket.specs.Drafts.{ReadsWhole};
+ghost use Rattle.ticket.specs.Gathers.{HoldsAction, AddsOutcome, StepRead};
 
 use crate::draft::{Draft, gather};
-use crate::effect_list::read_outcome;
 use crate::literals::push_literal;
+use crate::node::Node;
+use crate::outcomes::{no_effects, read_outcome};
 use records::kinds::Record;
-use records::part::Part;
 use records::refusal::{Fault, Refusal};
 use worlds::few::Few;
-use worlds::step::{Action, Effect, Outcome, Step, Term};
+use worlds::step::{Action, Outcome, Step, Term};
 
 #[derive(Clone, Copy)]
-pub(crate) struct ActionDraft {
-    pub(crate) precondition: Term,
-    pub(crate) outcomes: Few<Outcome, 4>,
+struct ActionDraft {
+    precondition: Term,
+    outcomes: Few<Outcome, 4>,
 }
 
 // Adds the outcome of a record to those before it in its chain.
-fn add_outcome<'a>(
-    outcomes: &mut Few<Outcome, 4>,
-    file: &'a [u8],
-    n: u16,
-    part: Part<'a>,
-) -> Result<(), Refusal>
-    requires { (inside file.now (below part.bytes.now) ≡ true) × (n ≤ 32) }
-    ensures { (ks : List ℕ) → Handed file.now part.entry.number part.entry → kind part.entry.bytes.now ≡ 6 → map outcome_of (listed outcomes.old) ≡ map (outcome_at file.now) (among file.now 6 ks) → AddsOutcome file.now n ks part.entry.number (map outcome_of (listed outcomes.old)) (map outcome_of (listed outcomes.new)) result }
+fn add_outcome(outcomes: &mut Few<Outcome, 4>, node: &Node<'_>) -> Result<(), Refusal>
+    ensures { (ks : List ℕ) → let f = node.now.file.bytes.now in kind node.now.part.bytes.now ≡ 6 → map outcome_of (listed outcomes.old) ≡ map (outcome_at f) (among f 6 ks) → AddsOutcome f node.now.file.conditions ks node.now.part.number (map outcome_of (listed outcomes.old)) (map outcome_of (listed outcomes.new)) result }
 {
-    part.judged(n, 4, outcomes.len())?;
-    let outcome = read_outcome(file, n, part.below())?;
-    let _ = outcomes.push(outcome);
-    Ok(())
+    let outcome = node.read(4, outcomes.len(), read_outcome)?;
+    outcomes
+        .push(outcome)
+        .map_err(|_| node.part.refused(Fault::Limit))
 }
 
 impl Draft for ActionDraft {
     ghost holds = { λ d f n place ks. HoldsAction (listed d.precondition) (map outcome_of (listed d.outcomes)) f n place ks };
 
-    fn add<'a>(&mut self, file: &'a [u8], n: u16, part: Part<'a>) -> Result<(), Refusal> {
-        match Record::of(part) {
-            Record::Literal(part) => push_literal(&mut self.precondition, n, &part),
-            Record::Outcome(part) => add_outcome(&mut self.outcomes, file, n, part),
-            _ => Err(part.refused(Fault::Kind)),
+    #[tactic(auto, using(crate::proofs::Records::unrecognised))]
+    fn add(&mut self, node: &Node<'_>) -> Result<(), Refusal> {
+        match Record::try_from(node.part)? {
+            Record::Literal(_) => push_literal(&mut self.precondition, node),
+            Record::Outcome(_) => add_outcome(&mut self.outcomes, node),
+            _ => Err(node.part.refused(Fault::Kind)),
         }
     }
 }
 
-// Reads the action of record `number`, whose chain starts at record `first`.
-pub(crate) fn read_action(
-    file: &[u8],
-    n: u16,
-    class: u8,
-    number: u16,
-    first: u16,
-) -> Result<Step, Refusal>
-    requires { (inside file.now first ≡ true) × (n ≤ 32) }
-    ensures { ReadsWhole file.now n under_action number first (λ s. StepRead n (action_from file.now class (chain file.now first)) (step_of s)) result }
+// Reads the action of a record from the chain under it.
+pub(crate) fn read_action(node: &Node<'_>) -> Result<Step, Refusal>
+    ensures { let f = node.now.file.bytes.now in let n = node.now.file.conditions in let r = node.now.part.bytes.now in class_good (value r) ≡ true → ReadsWhole f n under_action node.now.part.number (below r) (λ s. StepRead n (action_from f (unsigned_abs (value r)) (chain f (below r))) (step_of s)) result }
 {
-    let blank = Effect {
-        conditions: Few::none(0),
-        result: 0,
-    };
     let mut draft = ActionDraft {
         precondition: Few::none(0),
-        outcomes: Few::none(Outcome {
-            effects: Few::none(blank),
-        }),
+        outcomes: Few::none(no_effects()),
     };
-    gather(&mut draft, file, n, first)?;
+    gather(&mut draft, node.below())?;
     if draft.outcomes.len() == 0 {
-        return Err(Refusal {
-            fault: Fault::Missing,
-            record: number,
-        });
+        return Err(node.part.refused(Fault::Missing));
     }
     Ok(Step::Action(Action {
-        class,
+        class: node.part.class(),
         precondition: draft.precondition,
         outcomes: draft.outcomes,
     }))

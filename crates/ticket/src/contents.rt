@@ -4,6 +4,7 @@ ghost use Rattle.std.specs.Prelude.{◌≤◌, vec_capacity};
 
 use worlds::step::{Step, Term};
 
+mod adds;
 mod gathers;
 
 #[derive(Drop)]

@@ -1,8 +1,11 @@
-ghost use Rattle.std.specs.Prelude.{◌≡◌, ◌+◌, ◌*◌, ◌≤◌, true, ◌&&◌, length};
-ghost use Rattle.records.specs.Layout.{inside, leads_on, part, below, next};
-ghost use Rattle.ticket.specs.Chains.{Takes};
+ghost use Rattle.std.specs.Prelude.{◌≡◌, ◌+◌, ◌*◌, ◌≤◌, ◌&&◌, length};
+ghost use Rattle.records.specs.Layout.{leads_on, part, below, next};
+ghost use Rattle.ticket.specs.Takes.{Opens, Takes};
 
 use crate::chain_reader::ChainReader;
+use crate::file::File;
+use crate::node::Node;
+use records::head::read_head;
 use records::part::Part;
 use records::refusal::{Fault, Refusal};
 
@@ -14,7 +17,7 @@ fn leads_on(file: &[u8], number: u16, link: u16) -> bool
 }
 
 // Whether both links of a record are good.
-fn links_good(file: &[u8], part: &Part) -> bool
+fn links_good(file: &[u8], part: &Part<'_>) -> bool
     ensures { result ≡ (leads_on file.now part.now.number (below part.now.bytes.now) && leads_on file.now part.now.number (next part.now.bytes.now)) }
 {
     leads_on(file, part.number, part.below()) && leads_on(file, part.number, part.next())
@@ -34,27 +37,33 @@ fn part_at(file: &[u8], number: u16) -> Part<'_>
 }
 
 impl<'a> ChainReader<'a> {
-    pub(crate) fn new(file: &'a [u8], first: u16) -> ChainReader<'a>
-        requires { inside file.now first ≡ true }
-        ensures { (result.file.now ≡ file.now) × (result.place ≡ first) }
+    // The top chain of a file, once record 0 is found good.
+    pub(crate) fn top(bytes: &'a [u8]) -> Result<ChainReader<'a>, Refusal>
+        ensures { Opens bytes.now result }
     {
-        ChainReader { file, place: first }
+        let head = read_head(bytes)?;
+        Ok(ChainReader {
+            file: File {
+                bytes,
+                conditions: head.conditions,
+            },
+            place: head.top,
+        })
     }
 
     // The next record, once both its links are found good; nothing at the end of the chain.
-    pub(crate) fn take(&mut self) -> Result<Option<Part<'a>>, Refusal>
-        ensures { Takes self.old.file.now self.old.place self.new.file.now self.new.place result }
+    pub(crate) fn take(&mut self) -> Result<Option<Node<'a>>, Refusal>
+        ensures { Takes self.old self.new result }
     {
-        let number = self.place;
-        if number == 0 {
+        if self.place == 0 {
             return Ok(None);
         }
         let file = self.file;
-        let part = part_at(file, number);
-        if !links_good(file, &part) {
+        let part = part_at(file.bytes, self.place);
+        if !links_good(file.bytes, &part) {
             return Err(part.refused(Fault::Link));
         }
         self.place = part.next();
-        Ok(Some(part))
+        Ok(Some(Node { file, part }))
     }
 }

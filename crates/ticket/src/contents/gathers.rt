@@ -1,42 +1,41 @@
-ghost use Rattle.std.specs.Prelude.{◌≡◌, ◌≤◌, true, ◌||◌, [], ◌∷◌, length, IfOk, vec_len, ◌==◌};
-ghost use Rattle.std.specs.Option.{option_to_list};
-ghost use Rattle.worlds.specs.Meaning.{listed, step_of};
-ghost use Rattle.records.specs.Layout.{inside};
-ghost use Rattle.ticket.specs.Gathers.{HoldsTop, Fills};
-ghost use Rattle.ticket.specs.Meaning.{terms_of, aims_of, steps_of};
+ghost use Rattle.std.specs.Prelude.{◌≡◌, ◌≤◌, ◌||◌, [], ◌∷◌, length, IfOk, vec_len, ◌==◌};
+ghost use Rattle.ticket.specs.Gathers.{Fills};
+ghost use Rattle.ticket.specs.Meaning.{HoldsContents, terms_of, aims_of, steps_of};
 
+use crate::action_draft::read_action;
+use crate::chain_reader::ChainReader;
 use crate::contents::Contents;
 use crate::draft::{Draft, gather};
-use crate::standing::standing;
-use crate::top::{add_aim, add_step, add_term};
+use crate::node::Node;
+use crate::sensing_draft::read_sensing;
 use records::kinds::Record;
-use records::part::Part;
 use records::refusal::{Fault, Refusal};
 use std::alloc::{AllocError, Global};
 use worlds::few::Few;
 use worlds::step::Term;
 
 impl Draft for Contents {
-    ghost holds = { λ d f n place ks. HoldsTop (terms_of d) (aims_of d) (steps_of d) f n place ks };
+    ghost holds = { λ d f n place ks. HoldsContents d f n place ks };
 
-    fn add<'a>(&mut self, file: &'a [u8], n: u16, part: Part<'a>) -> Result<(), Refusal> {
-        match Record::of(part) {
-            Record::Term(part) => add_term(&mut self.terms, file, n, part),
-            Record::Aim(part) => add_aim(&mut self.aim, file, n, part),
-            Record::Action(part) => add_step(&mut self.steps, file, n, part),
-            Record::Sensing(part) => add_step(&mut self.steps, file, n, part),
-            _ => Err(part.refused(Fault::Kind)),
+    #[tactic(auto, using(crate::proofs::Records::unrecognised))]
+    fn add(&mut self, node: &Node<'_>) -> Result<(), Refusal> {
+        match Record::try_from(node.part)? {
+            Record::Term(_) => self.add_term(node),
+            Record::Aim(_) => self.add_aim(node),
+            Record::Action(_) => self.add_step(node, read_action),
+            Record::Sensing(_) => self.add_step(node, read_sensing),
+            _ => Err(node.part.refused(Fault::Kind)),
         }
     }
 }
 
 impl Contents {
     // One term and an aim without literals and no steps, with room for all that a ticket may have.
-    pub(crate) fn new(heap: Global) -> Result<Contents, AllocError>
+    pub(crate) fn new(alloc: Global) -> Result<Contents, AllocError>
         ensures { IfOk result (λ d. (terms_of d ≡ [] ∷ []) × (aims_of d ≡ [] ∷ []) × (steps_of d ≡ [])) }
     {
-        let mut terms = Vec::with_capacity(heap, 256)?;
-        let steps = Vec::with_capacity(heap, 32)?;
+        let mut terms = Vec::with_capacity(alloc, 256)?;
+        let steps = Vec::with_capacity(alloc, 32)?;
         let list: Term = Few::none(0);
         terms.push_reserved(list);
         Ok(Contents {
@@ -46,7 +45,7 @@ impl Contents {
         })
     }
 
-    pub(crate) fn clear(&mut self)
+    fn clear(&mut self)
         ensures { (terms_of self.new ≡ []) × (aims_of self.new ≡ []) × (steps_of self.new ≡ []) }
     {
         self.terms.clear();
@@ -59,27 +58,26 @@ impl Contents {
         requires { (vec_len other.now.terms ≤ 256) × (vec_len other.now.steps ≤ 32) }
         ensures { (terms_of self.new ≡ terms_of other.now) × (aims_of self.new ≡ aims_of other.now) × (steps_of self.new ≡ steps_of other.now) }
     {
-        self.terms.clear();
+        self.clear();
+        // within the room that there is it cannot fail; of what the library has, only `push_reserved` has no Result
         let _ = self.terms.extend_from_slice(other.terms.as_slice());
         self.aim = other.aim;
-        self.steps.clear();
         let _ = self.steps.extend_from_slice(other.steps.as_slice());
     }
 
     // Whether there is no term or no aim yet.
     fn is_incomplete(&self) -> bool
-        ensures { result ≡ (vec_len self.now.terms == 0 || length (option_to_list self.now.aim) == 0) }
+        ensures { result ≡ (length (terms_of self.now) == 0 || length (aims_of self.now) == 0) }
     {
-        self.terms.len() == 0 || standing(&self.aim) == 0
+        self.terms.is_empty() || self.aim.is_none()
     }
 
-    // Fills the contents anew from the top chain, which starts at record `first`.
-    pub(crate) fn fill(&mut self, file: &[u8], n: u16, first: u16) -> Result<(), Refusal>
-        requires { (inside file.now first ≡ true) × (n ≤ 32) }
-        ensures { Fills file.now n first (terms_of self.new) (aims_of self.new) (steps_of self.new) result }
+    // Fills the contents anew from the top chain.
+    pub(crate) fn fill(&mut self, top: ChainReader<'_>) -> Result<(), Refusal>
+        ensures { Fills top.entry.file.bytes.now top.entry.file.conditions top.entry.place (terms_of self.new) (aims_of self.new) (steps_of self.new) result }
     {
         self.clear();
-        gather(self, file, n, first)?;
+        gather(self, top)?;
         if self.is_incomplete() {
             return Err(Refusal {
                 fault: Fault::Missing,

@@ -1,19 +1,19 @@
 ghost use Rattle.std.specs.Prelude.{◌≡◌, IfOk};
 ghost use Rattle.ticket.specs.Tickets.{ticket_of, blank, ReadAs};
 
+use crate::chain_reader::ChainReader;
 use crate::contents::Contents;
 use crate::ticket::Ticket;
-use records::head::read_head;
 use records::refusal::Refusal;
 use std::alloc::{AllocError, Global};
 
 impl Ticket {
     // A ticket of one condition that starts anywhere, aims at nothing and has no steps, with room for every ticket.
-    pub fn new(heap: Global) -> Result<Ticket, AllocError>
+    pub fn new(alloc: Global) -> Result<Ticket, AllocError>
         ensures { IfOk result (λ t. ticket_of t ≡ blank) }
     {
-        let kept = Contents::new(heap)?;
-        let spare = Contents::new(heap)?;
+        let kept = Contents::new(alloc)?;
+        let spare = Contents::new(alloc)?;
         Ok(Ticket {
             conditions: 1,
             kept,
@@ -25,10 +25,11 @@ impl Ticket {
     pub fn read(&mut self, file: &[u8]) -> Result<(), Refusal>
         ensures { ReadAs file.now (ticket_of self.old) (ticket_of self.new) result }
     {
-        let head = read_head(file)?;
-        self.spare.fill(file, head.conditions, head.top)?;
+        let top = ChainReader::top(file)?;
+        let conditions = top.file.conditions;
+        self.spare.fill(top)?;
         std::mem::swap(&mut self.kept, &mut self.spare);
-        self.conditions = head.conditions;
+        self.conditions = conditions;
         Ok(())
     }
 

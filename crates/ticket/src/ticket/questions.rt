@@ -22,10 +22,7 @@ impl Ticket {
     pub fn aim(&self) -> Term
         ensures { listed result ≡ (ticket_of self.now).aim }
     {
-        match self.kept.aim {
-            Some(aim) => aim,
-            None => Few::none(0),
-        }
+        self.kept.aim.unwrap_or(Few::none(0))
     }
 
     pub fn steps(&self) -> &[Step]

@@ -1,47 +1,49 @@
-use Rattle.std.proofs.Common.{◌<◌, cond, [], ◌∷◌, ◌++◌, map, length, sym, refl, ap, ◌∙◌, subst}
+use Rattle.std.proofs.Common.{◌≡◌, ℕ, ◌<◌, cond, List, [], ◌∷◌, ◌++◌, map, length, Ok, Err, sym, refl, ap, ◌∙◌, subst}
 use lib.ListN.{length-map}
 use Rattle.std.proofs.lemmas.List.{map-append}
 use Rattle.std.proofs.lemmas.Result.{err_from_is_err_and}
-use Rattle.std.proofs.lemmas.Bool.{lt-ltb, leb-false}
+use Rattle.std.proofs.lemmas.Bool.{lt-ltb}
+use Rattle.worlds.specs.declared.step.Outcome as code_outcome
 use Rattle.worlds.specs.Meaning.{listed, outcome_of}
-use Rattle.records.specs.Layout.{below}
 use Rattle.records.specs.Content.{chain, among, effect_at, outcome_at}
-use Rattle.records.specs.Judging.{under_action, ended}
-use Rattle.ticket.proofs.Records.{own_broke, own_passed, below_broke, below_sound, counted}
+use Rattle.records.specs.Layout.{kind, below}
+use Rattle.records.specs.Judging.{under_action}
+use Rattle.ticket.specs.declared.node.Node.{Node}
+use Rattle.ticket.specs.Nodes.{Stands}
+use Rattle.ticket.specs.Gathers.{OutcomeRead, AddsOutcome}
+use Rattle.ticket.proofs.Records.{counted, ok_stays}
+use Rattle.ticket.proofs.Readings.{record_read}
 use Rattle.ticket.proofs.action_draft.add_outcome.Goals as goal
 
-pub returns-in_err-judged : goal.returns-in_err-judged
-returns-in_err-judged c =
-    let p = err_from_is_err_and c.from_residual.result c.from_residual.ensures.1 in
-    rw (p.1, p.2)
-    (λ ks h e same.
-    let count = counted c.args.file.now 6 ks (outcome_at c.args.file.now) outcome_of _ same ∙ sym c.len.ensures in
-    own_broke _ _ under_action ks _ _ h 6 4 _ e refl count refl _ c.in_err-judged.ensures)
+abbrev is : Node → code_outcome.Outcome → Type 0
+is node o = OutcomeRead node.file.bytes.now node.file.conditions (below node.part.bytes.now) (outcome_of o)
+
+-- the record comes after the outcomes before it
+stands : (node : Node) (ks : List ℕ) (outcomes : List code_outcome.Outcome) (m : ℕ) → kind node.part.bytes.now ≡ 6 → map outcome_of outcomes ≡ map (outcome_at node.file.bytes.now) (among node.file.bytes.now 6 ks) → m ≡ length outcomes → Stands node under_action ks 6 4 m
+stands node ks outcomes m e same count =
+    record { kind_is = e; space = refl; count = counted node.file.bytes.now 6 ks (outcome_at node.file.bytes.now) outcome_of outcomes same ∙ sym count; no_literal = refl }
 
 pub returns-in_err-outcome : goal.returns-in_err-outcome
 returns-in_err-outcome c =
-    let p = err_from_is_err_and c.from_residual-in_err-outcome.result c.from_residual-in_err-outcome.ensures.1 in
-    rw (p.1, p.2)
-    (λ ks h e same.
-    let count = counted c.args.file.now 6 ks (outcome_at c.args.file.now) outcome_of _ same ∙ sym c.len.ensures in
-    let passed = own_passed _ _ under_action ks _ _ h 6 4 _ e refl count refl _ c.in_ok-judged.ensures in
-    below_broke _ _ under_action ks _ _ h 6 4 _ e refl count refl passed.0 _ c.below.ensures _ (c.in_err-outcome.ensures _))
+    let p = err_from_is_err_and c.from_residual.result c.from_residual.ensures.1 in
+    let node = c.args.node.now in
+    rw (p.1, p.2) (λ ks e same. record_read _ node 4 _ (Err c.in_err-outcome.field-0.0) c.in_err-outcome.ensures.answer under_action ks 6 (stands node ks _ _ e same c.len.ensures) (is node) (λ w r. r) (λ f ls n above. refl))
 
 pub returns : goal.returns
-returns c = λ ks h e same.
-    let f = c.args.file.now in
+returns c = λ ks e same.
+    let node = c.args.node.now in
+    let f = node.file.bytes.now in
     let l = listed c.args.outcomes.now in
     let o = c.in_ok-outcome.outcome in
-    let count = counted f 6 ks (outcome_at f) outcome_of l same ∙ sym c.len.ensures in
-    let passed = own_passed _ _ under_action ks _ _ h 6 4 _ e refl count refl _ c.in_ok-judged.ensures in
-    let read = c.in_ok-outcome.ensures in
-    let few : length l < 4 = subst (λ m. m < 4) c.len.ensures (leb-false 4 _ passed.1.space) in
+    let read = record_read _ node 4 _ (Ok o) c.in_ok-outcome.ensures.answer under_action ks 6 (stands node ks _ _ e same c.len.ensures) (is node) (λ w r. r) (λ f ls n above. refl) in
+    let few : length l < 4 = subst (λ m. m < 4) c.len.ensures read.1.1 in
     let pushed = c.push.ensures.items ∙ ap (λ b. cond b (l ++ o ∷ []) l) (lt-ltb _ 4 few) in
-    record {
-      sound = below_sound _ _ under_action ks _ _ h 6 4 _ e refl count refl passed.0 _ c.below.ensures (read.1 _ _ (ended refl refl));
+    subst (λ v. AddsOutcome f node.file.conditions ks node.part.number (map outcome_of l) (map outcome_of (listed c.push.new.self)) v) (sym (ok_stays _ _ _ _ (c.push.ensures.answer ∙ ap (λ b. cond b (Ok tt) (Err o)) (lt-ltb _ 4 few)) c.map_err.ensures.cases))
+    (record {
+      sound = read.0;
       last = outcome_of o;
       longer = ap (map outcome_of) pushed ∙ map-append outcome_of l (o ∷ []);
-      same = read.0.same ∙ ap (λ j. map (effect_at f) (among f 7 (chain f j))) (c.below.ensures ∙ ap below h.bytes);
-      lawful = read.0.lawful;
+      same = read.1.0.same ∙ ap (λ b. map (effect_at f) (among f 7 (chain f (below b)))) node.handed.bytes;
+      lawful = read.1.0.lawful;
       room_left = subst (λ m. m < 4) (sym (length-map l outcome_of)) few;
-    }
+    })

@@ -3,10 +3,14 @@ use Rattle.records.specs.Judging.{Place}
 use Rattle.ticket.proofs.Walks.{Walked, left}
 use Rattle.ticket.proofs.draft.gather.Given as goal
 
-abbrev pub invariant-loop-part : goal.invariant-loop-part
-invariant-loop-part g l =
-    (l.chain.file.now ≡ l.file)
-    × ((place : Place) → g.D.Draft.holds l.initial.draft l.file l.n place [] → Walked l.file l.n place l.first l.chain.place (g.D.Draft.holds l.draft l.file l.n place))
+abbrev pub invariant-loop-node : goal.invariant-loop-node
+invariant-loop-node g l =
+    let f = l.fn.chain.file.bytes.now in
+    let n = l.fn.chain.file.conditions in
+    record {
+      same_file : l.chain.file ≡ l.fn.chain.file;
+      walked : (place : Place) → g.D.Draft.holds l.fn.draft f n place [] → Walked f n place l.fn.chain.place l.chain.place (g.D.Draft.holds l.draft f n place);
+    }
 
-abbrev pub decreases-loop-part : goal.decreases-loop-part
-decreases-loop-part g l = left l.file l.chain.place
+abbrev pub decreases-loop-node : goal.decreases-loop-node
+decreases-loop-node g l = left l.fn.chain.file.bytes.now l.chain.place

@@ -1,20 +1,9 @@
-use Rattle.std.proofs.Common.{◌≡◌, ℕ, ◌<◌, true, false, ◌||◌, eqb, length, vec_items, vec_len, sym, refl, ap, ◌∙◌, arith}
-use lib.ListN.{length-map}
-use Rattle.std.specs.Option.{option_to_list}
+use Rattle.std.proofs.Common.{◌≡◌, ℕ, ◌<◌, true, false, eqb, length, sym, refl, ap, arith}
 use Rattle.std.proofs.lemmas.Bool.{or_parts, eqb-false}
-use Rattle.worlds.specs.Meaning.{listed}
-use Rattle.ticket.specs.declared.contents.Contents.{Contents}
 use Rattle.records.specs.Judging.{at_top, ended, at_record}
 use Rattle.ticket.specs.Meaning.{terms_of, aims_of}
 use Rattle.ticket.proofs.Tops.{holds_none, top_ends}
 use Rattle.ticket.proofs.contents.Contents.fill.Goals as goal
-
--- the test of the code, by what the contents mean
-lacking : (d : Contents) → (eqb (length (terms_of d)) 0 || eqb (length (aims_of d)) 0) ≡ (eqb (vec_len d.terms) 0 || eqb (length (option_to_list d.aim)) 0)
-lacking d =
-    let terms = length-map (vec_items d.terms) listed ∙ sym d.terms.ok.0 in
-    let aims = length-map (option_to_list d.aim) listed in
-    λ i. eqb (terms i) 0 || eqb (aims i) 0
 
 not_none : (m : ℕ) → eqb m 0 ≡ false → 0 < m
 not_none m e = let ne = eqb-false m 0 e in omega arith
@@ -22,14 +11,13 @@ not_none m e = let ne = eqb-false m 0 e in omega arith
 pub returns-then-is_incomplete : goal.returns-then-is_incomplete
 returns-then-is_incomplete c =
     let read = c.in_ok-gather.ensures at_top (holds_none _ _ _ _ _ c.clear.ensures.0 c.clear.ensures.1 c.clear.ensures.2) in
-    let lacks = lacking c.gather.new.draft ∙ sym c.if-is_incomplete.ensures in
-    read.1 _ _ (ended refl (ap (at_record 0) (sym (top_ends _ _ _ _ _ _ read.0 true lacks))))
+    read.1 _ _ (ended refl (ap (at_record 0) (sym (top_ends _ _ _ _ _ _ read.0 true (sym c.if-is_incomplete.ensures)))))
 
 pub returns : goal.returns
 returns c =
     let read = c.in_ok-gather.ensures at_top (holds_none _ _ _ _ _ c.clear.ensures.0 c.clear.ensures.1 c.clear.ensures.2) in
     let d = c.gather.new.draft in
-    let has = lacking d ∙ sym c.if-is_incomplete.ensures in
+    let has = sym c.if-is_incomplete.ensures in
     let parts = or_parts (eqb (length (terms_of d)) 0) (eqb (length (aims_of d)) 0) has in
     record {
       holds = read.0;
