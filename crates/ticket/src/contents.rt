@@ -1,6 +1,6 @@
 // What the top chain of a ticket holds. Both lists have all the room that they may need from the beginning, so that
 // reading never runs out of memory.
-ghost use Rattle.std.specs.Prelude.{◌≤◌, vec_capacity};
+ghost use Rattle.std.specs.Prelude.{◌≤◌, vec_capacity, vec_len};
 
 use worlds::step::{Step, Term};
 
@@ -12,6 +12,6 @@ pub(crate) struct Contents {
     pub(crate) terms: Vec<Term>,
     pub(crate) aim: Option<Term>,
     pub(crate) steps: Vec<Step>,
-    ghost terms_room: { 256 ≤ vec_capacity terms },
-    ghost steps_room: { 32 ≤ vec_capacity steps },
+    ghost terms_room: { (vec_len terms ≤ 256) × (256 ≤ vec_capacity terms) },
+    ghost steps_room: { (vec_len steps ≤ 32) × (32 ≤ vec_capacity steps) },
 }

@@ -53,9 +53,8 @@ impl Contents {
         self.steps.clear();
     }
 
-    // Makes these contents those of another, for which there is room.
+    // Makes these contents those of another.
     pub(crate) fn copy_from(&mut self, other: &Contents)
-        requires { (vec_len other.now.terms ≤ 256) × (vec_len other.now.steps ≤ 32) }
         ensures { (terms_of self.new ≡ terms_of other.now) × (aims_of self.new ≡ aims_of other.now) × (steps_of self.new ≡ steps_of other.now) }
     {
         self.clear();
