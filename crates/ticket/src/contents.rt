@@ -1,5 +1,5 @@
-// What the top chain of a ticket holds. Both lists have all the room that they may need from the beginning, so that
-// reading never runs out of memory.
+// What the top chain of a ticket holds: at most 256 terms and 32 steps. Both lists have all the room that they may need
+// from the beginning, so that reading never runs out of memory.
 ghost use Rattle.std.specs.Prelude.{◌≤◌, vec_capacity, vec_len};
 
 use worlds::step::{Step, Term};

@@ -1,5 +1,5 @@
 // What is gathered from the records of one chain. The loop over a chain is written once, for every draft.
-ghost use Rattle.std.specs.Prelude.{◌≡◌, ℕ, List, []};
+ghost use Rattle.std.specs.Prelude.{ℕ, List, []};
 ghost use Rattle.records.specs.Judging.{Place};
 ghost use Rattle.ticket.specs.Drafts.{Added, Gathered};
 

@@ -1,4 +1,4 @@
-ghost use Rattle.std.specs.Prelude.{◌≡◌, ◌≤◌, ◌||◌, [], ◌∷◌, length, IfOk, vec_len, ◌==◌};
+ghost use Rattle.std.specs.Prelude.{◌≡◌, ◌||◌, [], ◌∷◌, length, IfOk, ◌==◌};
 ghost use Rattle.ticket.specs.Gathers.{Fills};
 ghost use Rattle.ticket.specs.Meaning.{HoldsContents, terms_of, aims_of, steps_of};
 
