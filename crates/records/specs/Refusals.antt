@@ -1,5 +1,6 @@
--- The number of each fault of a ticket file.
-use Rattle.std.specs.Prelude.{ℕ}
+-- The number of each fault of a ticket file, and a refusal as users are told of it.
+use Rattle.std.specs.Prelude.{ℕ, List, ◌++◌, codes, decimal}
+use Rattle.records.specs.declared.refusal.Refusal.{Refusal}
 use Rattle.records.specs.declared.refusal.Fault.{Fault}
 use Rattle.records.specs.declared.refusal.Fault.TheVariants.{Length, Mark, Conditions, Link, Kind, Value, Opposite, Limit, Missing}
 
@@ -13,3 +14,7 @@ number_of Value = 6
 number_of Opposite = 7
 number_of Limit = 8
 number_of Missing = 9
+
+-- the word `ticket`, the number of the fault and the record, between blanks
+abbrev pub refusal_words : Refusal → List ℕ
+refusal_words r = codes "ticket " ++ (decimal (number_of r.fault) ++ (codes " " ++ decimal r.«record»))

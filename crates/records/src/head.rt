@@ -25,7 +25,7 @@ pub fn read_head(file: &[u8]) -> Result<Head, Refusal>
     if file.len() < 8 || file.len() > 32768 || file.len() % 8 != 0 {
         return Err(refused(Fault::Length));
     }
-    if [file[0], file[1], file[2], file[3]] != MARK {
+    if !file.starts_with(&MARK) {
         return Err(refused(Fault::Mark));
     }
     let conditions = u16::from_le_bytes([file[4], file[5]]);

@@ -17,24 +17,14 @@ fn is_contrary(a: Literal, b: Literal) -> bool
 pub fn is_opposed(list: &[Literal], literal: Literal) -> bool
     ensures { result ≡ has_literal (opposite literal) list.now }
 {
-    for l in list {
-        if is_contrary(*l, literal) {
-            return true;
-        }
-    }
-    false
+    list.iter().any(|l| is_contrary(*l, literal))
 }
 
 // Whether no literal of one list has its opposite in the other.
 fn are_compatible(list: &[Literal], other: &[Literal]) -> bool
     ensures { result ≡ compatible list.now other.now }
 {
-    for l in list {
-        if is_opposed(other, *l) {
-            return false;
-        }
-    }
-    true
+    list.iter().all(|l| !is_opposed(other, *l))
 }
 
 fn in_conflict(earlier: &Effect, effect: &Effect) -> bool
@@ -48,10 +38,5 @@ fn in_conflict(earlier: &Effect, effect: &Effect) -> bool
 pub fn is_clashing(earlier: &[Effect], effect: &Effect) -> bool
     ensures { result ≡ conflicts (map effect_of earlier.now) (effect_of effect.now) }
 {
-    for e in earlier {
-        if in_conflict(e, effect) {
-            return true;
-        }
-    }
-    false
+    earlier.iter().any(|e| in_conflict(e, effect))
 }

@@ -1,7 +1,7 @@
 // One record of a ticket file: its number and the eight bytes that it covers.
-ghost use Rattle.std.specs.Prelude.{◌≡◌, true, slice_index, unsigned_abs};
+ghost use Rattle.std.specs.Prelude.{◌≡◌, ◌<◌, true, slice_index, unsigned_abs};
 ghost use Rattle.records.specs.Judging.{class_good};
-ghost use Rattle.records.specs.Layout.{kind, value, below, next};
+ghost use Rattle.records.specs.Layout.{word, kind, value, below, next};
 
 use crate::refusal::{Fault, Refusal};
 
@@ -12,18 +12,24 @@ pub struct Part<'a> {
 }
 
 impl Part<'_> {
+    // The word whose low byte stands at a place.
+    fn word(&self, at: usize) -> u16
+        requires { at < 7 }
+        ensures { result ≡ word self.now.bytes.now at }
+    {
+        u16::from_le_bytes([self.bytes[at], self.bytes[at + 1]])
+    }
+
     pub fn kind(&self) -> u16
         ensures { result ≡ kind self.now.bytes.now }
     {
-        let b = self.bytes;
-        u16::from_le_bytes([b[0], b[1]])
+        self.word(0)
     }
 
     pub fn value(&self) -> i16
         ensures { result ≡ value self.now.bytes.now }
     {
-        let b = self.bytes;
-        i16::from_le_bytes([b[2], b[3]])
+        self.word(2).cast_signed()
     }
 
     // The class of a step: its value, which has only a low byte where it is 0 to 255.
@@ -37,15 +43,13 @@ impl Part<'_> {
     pub fn below(&self) -> u16
         ensures { result ≡ below self.now.bytes.now }
     {
-        let b = self.bytes;
-        u16::from_le_bytes([b[4], b[5]])
+        self.word(4)
     }
 
     pub fn next(&self) -> u16
         ensures { result ≡ next self.now.bytes.now }
     {
-        let b = self.bytes;
-        u16::from_le_bytes([b[6], b[7]])
+        self.word(6)
     }
 
     pub fn refused(&self, fault: Fault) -> Refusal

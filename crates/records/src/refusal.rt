@@ -1,6 +1,8 @@
 // Why a file is refused, and at which record. `number_of` in specs/Refusals.antt gives each fault its number.
-ghost use Rattle.std.specs.Prelude.{◌≡◌};
-ghost use Rattle.records.specs.Refusals.{number_of};
+ghost use Rattle.std.specs.Prelude.{◌≡◌, Some};
+ghost use Rattle.records.specs.Refusals.{number_of, refusal_words};
+
+use std::fmt;
 
 #[derive(Clone, Copy, PartialEq, Eq, Debug)]
 pub enum Fault {
@@ -31,12 +33,12 @@ pub struct Refusal {
     pub record: u16,
 }
 
-impl Fault {
-    // The number by which users know the fault.
-    pub fn number(self) -> u16
-        ensures { result ≡ number_of self }
-    {
-        match self {
+// The number by which users know a fault.
+impl From<Fault> for u16 {
+    ghost from_gives = { λ fault number. number ≡ number_of fault };
+
+    fn from(fault: Fault) -> u16 {
+        match fault {
             Fault::Length => 1,
             Fault::Mark => 2,
             Fault::Conditions => 3,
@@ -47,5 +49,16 @@ impl Fault {
             Fault::Limit => 8,
             Fault::Missing => 9,
         }
+    }
+}
+
+// A refusal as users are told of it: `ticket 7 6`.
+impl fmt::Display for Refusal {
+    ghost output = { λ refusal. Some (refusal_words refusal) };
+
+    fn fmt<W: fmt::Write>(&self, f: &mut fmt::Formatter<W>) -> fmt::Result {
+        let fault = u16::from(self.fault);
+        let record = self.record;
+        write!(f, "ticket {fault} {record}")
     }
 }

@@ -1,15 +1,17 @@
-use Rattle.std.proofs.Common.{map, sym, refl, ap, ◌∙◌, arith}
+use Rattle.std.proofs.Common.{Bool, map, ◌||◌, ◌∙◌, refl, rules}
+use Rattle.std.proofs.lemmas.Iterator.{YieldsList-from_slice}
+use Rattle.std.proofs.lemmas.Iterator.Search.{any_from_yields_List}
+use Rattle.std.proofs.lemmas.List.Recursion.{same_from_clauses}
+use Rattle.std.specs.List.{list_any}
+use borrow.Author.Tests.{tests}
+use Rattle.worlds.specs.declared.step.Effect as code
 use Rattle.worlds.specs.Meaning.{effect_of}
 use Rattle.records.specs.Conflicts.{conflict, conflicts}
-use Rattle.records.proofs.Scans.{some_passes, none_passes_at}
 use Rattle.records.proofs.opposites.is_clashing.Goals as goal
-
-pub returns-then-in_conflict : goal.returns-then-in_conflict
-returns-then-in_conflict c =
-    let e = effect_of c.args.effect.now in
-    sym (some_passes (λ d. conflict (effect_of d) e) (λ ds. conflicts (map effect_of ds) e) (λ _ _. refl) c.args.earlier.now c.loop-e.e-index c.e-item.result (omega arith) (ap (λ d. conflict (effect_of d) e) (sym c.e-item.is) ∙ sym c.if-in_conflict.ensures))
 
 pub returns : goal.returns
 returns c =
     let e = effect_of c.args.effect.now in
-    sym (none_passes_at (λ d. conflict (effect_of d) e) (λ ds. conflicts (map effect_of ds) e) refl (λ _ _. refl) c.args.earlier.now (λ i d lt. c.loop-e.invariant i d (omega arith)))
+    let test : code.Effect → Bool = λ d. conflict (effect_of d) e in
+    any_from_yields_List test _ _ _ c.any.ensures.ran (YieldsList-from_slice c.args.earlier.now cc) (λ x b q k. search (rules, tests))
+    ∙ same_from_clauses (list_any test) (λ ds. conflicts (map effect_of ds) e) (λ x b. test x || b) refl (λ _ _. refl) (λ _ _. refl) c.args.earlier.now
