@@ -1,11 +1,18 @@
 -- Rows of sixteen words: what a loop over the words shows of the set that a row keeps.
 -- Assumes nothing.
-use Rattle.std.proofs.Common.{◌≡◌, ℕ, zero, suc, ◌+◌, ◌-◌, ◌*◌, ◌/◌, ◌%◌, ◌^◌, ◌<◌, ◌≤◌, Bool, true, false, not, ◌&&◌, ◌||◌, eqb, ltb, leb, List, [], ◌∷◌, length, get_or, drop, set, pos, negsuc, sym, refl, ap, ◌∙◌, subst, ap₂, inl, inr, pow-suc, add-one, arith, length-set, drop-cons, get_or-set_other, get_or-set_same, pow_mono, below_more}
+use Rattle.std.proofs.Common.{◌≡◌, ℕ, zero, suc, ◌+◌, ◌-◌, ◌*◌, ◌/◌, ◌%◌, ◌^◌, ◌<◌, ◌≤◌, Bool, true, false, not, ◌&&◌, ◌||◌, eqb, ltb, leb, List, [], ◌∷◌, length, get_or, drop, set, pos, negsuc, sym, refl, ap, ◌∙◌, subst, ap₂, inl, inr, pow-suc, add-one, arith, length-set, drop-cons, get_or-set_other, get_or-set_same, pow_mono, below_more, to_z, of_z, w16, SFits}
 use lib.Bits.{bit_and, bit_or, and_le_l}
 use lib.Seq.{drop-length}
+use Rattle.std.specs.Fn.{Called}
+use Rattle.std.specs.Bool.{MatchBool}
+use Rattle.std.specs.List.{AllWithin, HoldsAt}
+use denote.Param.Members.{Mut}
+use Rattle.std.specs.Array.{IsFromFnResultFrom, IsFromFnResult}
+use Rattle.std.proofs.Math.Path.{fun_ext}
+use Rattle.std.proofs.lemmas.Int.{to_z-of_z}
 use Rattle.std.proofs.lemmas.Nat.{one_shl}
 use Rattle.std.proofs.lemmas.List.{ext_get_or}
-use Rattle.std.proofs.lemmas.Bool.{false≢true, both_ways, not-true, not-false, eqb-false, leb-true, lt-ltb, le-ltb, le-leb, cases_lt, cases_Bool, and_parts, and_from, and_left}
+use Rattle.std.proofs.lemmas.Bool.{false≢true, both_ways, not-true, not-false, eqb-false, leb-true, lt-ltb, le-ltb, le-leb, cases_eq, cases_lt, cases_Bool, and_parts, and_from, and_left}
 use Rattle.std.proofs.lemmas.Bool.Decides.{nat_tests}
 use Rattle.worlds.specs.Worlds.{World, Literal, meets, some_world, speaks_within, consistent}
 use Rattle.worlds.specs.Tickets.{meets_some, every, lawful_list}
@@ -34,6 +41,21 @@ words_more rule words i word h first right =
           (subst (rule i) (sym here) right),
     )
 
+-- the words that a function makes, call by call, are as the rule has them, where it keeps nothing between calls
+made_from : {F : Type 0} (g : Mut F (ℕ × Unit {0}) ℕ) (rule : ℕ → ℕ → Type 0) (f : F) → ((j word : ℕ) (q : F) → j < 16 → Called g f (j, tt) word q → rule j word × (q ≡ f)) → (words : List ℕ) (i m : ℕ) → i + m ≤ 16 → IsFromFnResultFrom g f words i m → (j : ℕ) → i ≤ j → j < i + m → rule j (get_or words j 0)
+made_from g rule f says words i zero end made j low high = absurd (omega arith)
+made_from {F} g rule f says words i (suc m) end made j low high =
+    let told = says i made.1 made.0 (omega arith) made.3 in
+    elim (cases_eq j i) [
+      | inl same ↦ subst (λ (k : ℕ). rule k (get_or words k 0)) (sym same) (subst (rule i) (sym (made.2.1 0)) told.0)
+      | inr other ↦
+          made_from g rule f says words (i + 1) m (omega arith)
+          (subst (λ (q : F). IsFromFnResultFrom g q words (i + 1) m) told.1 made.4) j (omega arith) (omega arith)
+    ]
+
+pub made_words : {F : Type 0} (g : Mut F (ℕ × Unit {0}) ℕ) (rule : ℕ → ℕ → Type 0) (f : F) → ((j word : ℕ) (q : F) → j < 16 → Called g f (j, tt) word q → rule j word × (q ≡ f)) → (words : List ℕ) → IsFromFnResult g f words 16 → WordsTo rule words 16
+made_words g rule f says words made = (made.long, λ j h. made_from g rule f says words 0 16 (omega arith) made.each j (omega arith) h)
+
 -- the word of a world number below 1024
 pub words_all : (rule : ℕ → ℕ → Type 0) (words : List ℕ) (i : ℕ) → 16 ≤ i → WordsTo rule words i → (k : ℕ) → k < 1024 → rule (k / 64) (get_or words (k / 64) 0)
 words_all rule words i end first k h = first.1 (k / 64) (omega arith)
@@ -56,6 +78,10 @@ pub side_word : (row : List ℕ) (l : Literal) (so : Bool) (j mask : ℕ) → ((
 side_word row l so j mask right b hb =
     bit_of_and (get_or row j 0) mask b ∙ ap (λ (x : Bool). bit (get_or row j 0) b && x) (right b hb)
 
+-- the same, of a literal as the code hands it on
+pub side_word_of : (row : List ℕ) (l : Literal) (so : Bool) (j mask : ℕ) → SFits w16 l → ((b : ℕ) → b < 64 → bit mask b ≡ same_value so (number_holds (64 * j + b) (to_z w16 (of_z w16 l)))) → SideWord row l so j (bit_and (get_or row j 0) mask)
+side_word_of row l so j mask f right = side_word row l so j mask (simp to_z-of_z at right)
+
 in_side : (row made : List ℕ) (l : Literal) (so : Bool) (i : ℕ) → 16 ≤ i → WordsTo (SideWord row l so) made i → (k : ℕ) → k < 1024 → in_words made k ≡ (in_words row k && same_value so (number_holds k l))
 in_side row made l so i end first k h =
     words_all (SideWord row l so) made i end first k h (k % 64) (omega arith)
@@ -70,6 +96,43 @@ pub side_tidy : (row made : List ℕ) (l : Literal) (so : Bool) (i : ℕ) → 16
 side_tidy row made l so i end first n tidy k beyond h =
     in_side row made l so i end first k h
     ∙ and_left (in_words row k) (same_value so (number_holds k l)) (tidy k beyond h)
+
+-- ## The worlds of a row that do not meet a list
+
+-- what is known of the word of the worlds that meet a list
+abbrev pub MeetWord : List Literal → ℕ → ℕ → Type 0
+MeetWord list j mask = (n : ℕ) (w : World n) (b : ℕ) → b < 64 → number n w ≡ 64 * j + b → bit mask b ≡ meets n w list
+
+-- the bits of `word & !mask`
+bit_outside : (word mask b : ℕ) → mask < 2 ^ 64 → b < 64 → bit (bit_and word (2 ^ 64 - 1 - mask)) b ≡ (bit word b && not (bit mask b))
+bit_outside word mask b small hb =
+    bit_of_and word (2 ^ 64 - 1 - mask) b ∙ ap (λ (x : Bool). bit word b && x) (bit_complement mask b small hb)
+
+-- word j of the worlds of a row that do not meet a list
+abbrev pub OutsideWord : List ℕ → List Literal → ℕ → ℕ → Type 0
+OutsideWord row list j word = (n : ℕ) (w : World n) (b : ℕ) → b < 64 → number n w ≡ 64 * j + b → bit word b ≡ (bit (get_or row j 0) b && not (meets n w list))
+
+pub outside_word : (row : List ℕ) (list : List Literal) (j mask : ℕ) → mask < 2 ^ 64 → MeetWord list j mask → OutsideWord row list j (bit_and (get_or row j 0) (2 ^ 64 - 1 - mask))
+outside_word row list j mask small right n w b hb is =
+    bit_outside (get_or row j 0) mask b small hb ∙ ap (λ (x : Bool). bit (get_or row j 0) b && not x) (right n w b hb is)
+
+outside_worlds_at : (row made : List ℕ) (list : List Literal) → WordsTo (OutsideWord row list) made 16 → (n : ℕ) → n ≤ 10 → (w : World n) → set_of n made w ≡ (set_of n row w && not (meets n w list))
+outside_worlds_at row made list first n few w =
+    words_all (OutsideWord row list) made 16 (omega arith) first (number n w) (number_below n w few) n w (number n w % 64) (omega arith) (sym (rejoined (number n w)))
+
+pub outside_worlds : (n : ℕ) (row made : List ℕ) (list : List Literal) → n ≤ 10 → WordsTo (OutsideWord row list) made 16 → (w : World n) → set_of n made w ≡ (set_of n row w && not (meets n w list))
+outside_worlds n row made list few first = outside_worlds_at row made list first n few
+
+pub outside_tidy : (n : ℕ) (row made : List ℕ) (list : List Literal) → n ≤ 10 → Tidy n row → WordsTo (OutsideWord row list) made 16 → Tidy n made
+outside_tidy n row made list few tidy first k beyond h =
+    let is : number 10 (world_of 10 k) ≡ k = number_of_world 10 k h in
+    ap (in_words made) (sym is) ∙ outside_worlds_at row made list first 10 (omega arith) (world_of 10 k)
+    ∙ and_left _ _ (ap (in_words row) is ∙ tidy k beyond h)
+
+-- a set meets a list where its worlds that do not are none
+pub meets_outside : (n m : ℕ) (row made : List ℕ) (list : List Literal) (told : Bool) → m ≡ n → ((w : World n) → set_of n made w ≡ (set_of n row w && not (meets n w list))) → told ≡ none_in m (set_of m made) → told ≡ all_meet n (set_of n row) list
+meets_outside n m row made list told same outside none =
+    subst (λ (k : ℕ). told ≡ none_in k (set_of k made)) same none ∙ ap (none_in n) (fun_ext outside)
 
 -- ## A row asked word by word
 
@@ -110,15 +173,6 @@ some_from n test w passes = sym (ap not (some_world_from n test w passes))
 -- each world of word j meets a list
 abbrev pub WordMeets : List ℕ → List Literal → ℕ → Type 0
 WordMeets row list j = (n : ℕ) (w : World n) (b : ℕ) → b < 64 → number n w ≡ 64 * j + b → bit (get_or row j 0) b ≡ true → meets n w list ≡ true
-
--- what is known of the word of the worlds that meet a list
-abbrev pub MeetWord : List Literal → ℕ → ℕ → Type 0
-MeetWord list j mask = (n : ℕ) (w : World n) (b : ℕ) → b < 64 → number n w ≡ 64 * j + b → bit mask b ≡ meets n w list
-
--- the bits of `word & !mask`
-bit_outside : (word mask b : ℕ) → mask < 2 ^ 64 → b < 64 → bit (bit_and word (2 ^ 64 - 1 - mask)) b ≡ (bit word b && not (bit mask b))
-bit_outside word mask b small hb =
-    bit_of_and word (2 ^ 64 - 1 - mask) b ∙ ap (λ (x : Bool). bit word b && x) (bit_complement mask b small hb)
 
 no_longer : (x y : Bool) → (x && not y) ≡ false → x ≡ true → y ≡ true
 no_longer true true none has = refl
@@ -179,6 +233,11 @@ row_some row j hj fits some n tidy =
     let has : in_words row (64 * j + b) ≡ true = in_word row j b found.1 ∙ found.2 in
     let world = tidy_world n row (64 * j + b) tidy (let low : b < 64 = found.1 in omega arith) has in
     some_from n (set_of n row) world.0 (ap (in_words row) world.1 ∙ has)
+
+-- what is told of all words of a row tells whether its set is empty
+pub empty_row : (n : ℕ) (row : List ℕ) (told : Bool) → n ≤ 10 → Tidy n row → length row ≡ 16 → MatchBool told (AllWithin (λ (x : ℕ). x ≡ 0) row 0 (length row)) ((j : ℕ) × (j < length row) × HoldsAt (λ (x : ℕ). (x ≡ 0 → ⊥) × (x < 2 ^ 64)) row j) → told ≡ none_in n (set_of n row)
+empty_row n row true few tidy long all = row_none row 16 (omega arith) (λ j h. all j 0 (omega arith) (omega arith)) n few
+empty_row n row false few tidy long some = row_some row some.0 (let h : some.0 < length row = some.1 in omega arith) (some.2 0).1 (some.2 0).0 n tidy
 
 -- ## Rows are the same exactly where their sets are
 

@@ -2,6 +2,7 @@
 
 pub mod map_bank;
 mod places;
+mod row;
 mod rows;
 mod steps;
 mod successors;

@@ -13,7 +13,7 @@ pub(crate) fn literal_mask(literal: Literal, k: usize) -> u64
     requires { (speaks_within 10 literal ≡ true) × (k < 16) }
     ensures { (b : ℕ) → b < 64 → bit result b ≡ number_holds (64 * k + b) literal }
 {
-    let truth = truth_word(literal.unsigned_abs() as usize, k);
+    let truth = truth_word(usize::from(literal.unsigned_abs()), k);
     if literal > 0 { truth } else { !truth }
 }
 
