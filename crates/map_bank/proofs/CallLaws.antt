@@ -1,6 +1,6 @@
 -- What each call of a map bank answers and leaves, by its rows.
 -- Assumes nothing.
-use Rattle.std.specs.Prelude.{◌≡◌, ℕ, suc, ◌<◌, ◌≤◌, Bool, true, false, cond, not, ◌&&◌, ltb, leb, List, [], ◌∷◌, ◌++◌, length, get_or, take, Some, None, Ok, Err, Option, Result, ◌==◌, ◌≢◌, nat_eq, nat_le, nat_lt, slice_index_or, refl}
+use Rattle.std.specs.Prelude.{◌≡◌, ℕ, suc, ◌<◌, ◌≤◌, Bool, true, false, cond, not, ◌&&◌, ltb, leb, List, [], ◌∷◌, ◌++◌, length, get_or, take, Some, None, Ok, Err, Option, Result, ◌==◌, nat_eq, nat_le, nat_lt, slice_index_or}
 use Rattle.std.proofs.Common.{sym, ◌∙◌, ap, subst, inl, inr, arith}
 use Rattle.std.proofs.Math.Path.{fun_ext}
 use Rattle.std.proofs.lemmas.Bool.{cond-false, cond-true, cases_Bool, lt-ltb, le-ltb, ltb-true, ltb-false, ne_eqb, lt-leb, le-leb}
@@ -15,7 +15,7 @@ use Rattle.bank.specs.Meaning as bank
 use Rattle.bank.specs.Meaning.{Meaning}
 use Rattle.bank.specs.Calls.{unless, left_by, then_fault, refuse_if, with_some, set_at, place_of, is_held, outcomes_of, sensed_of, holds_answer, put_fault, next_set, next_number, next_made, next_answer, next_leaves, side_set, split_number, split_made, split_answer, split_leaves, shorten_fault, shortened, found_fault, founded}
 use Rattle.map_bank.specs.Canon.{row_of}
-use Rattle.map_bank.specs.MapBanks.{meaning_with, map_nature, made_by, side_by, row_kept, row_answer, pushed_to, row_leaves}
+use Rattle.map_bank.specs.MapBanks.{meaning_with, map_nature, made_by, side_by, row_kept, place_kept, row_answer, pushed_to, row_leaves}
 use Rattle.map_bank.specs.Numbers.{set_of}
 
 -- ## The row of a number
@@ -102,34 +102,33 @@ module _ (t : Ticket) (rows : List (List ℕ)) (cap : ℕ) where
   abbrev place : List ℕ → ℕ
   place row = place_of n m.held (set_of n row)
 
-  pub put_full : (row : List ℕ) → place_of t.conditions (meaning_with t rows cap).held (set_of t.conditions row) ≡ length rows → cap ≤ length rows → (Err Full ≡ row_answer (meaning_with t rows cap) row) × (meaning_with t rows cap ≡ row_leaves (meaning_with t rows cap) row)
+  -- a row's set that is not held is new, and so its place is behind the held ones
+  absent_new : (row : List ℕ) → None ≡ place_kept m row → is_held n m.held (set_of n row) ≡ false
+  absent_new row e =
+      elim (cases_Bool (is_held n m.held (set_of n row))) [
+        | inl h ↦ let f = cond-true (is_held n m.held (set_of n row)) (Some (place row)) None h in let z : ◌≡◌ {A = ℕ} 0 1 = cc in absurd (omega arith)
+        | inr h ↦ h
+      ]
+
+  pub absent_place : (row : List ℕ) → None ≡ place_kept (meaning_with t rows cap) row → place_of t.conditions (meaning_with t rows cap).held (set_of t.conditions row) ≡ length (meaning_with t rows cap).held
+  absent_place row e =
+      let past : length m.held ≤ place row = ltb-false (place row) (length m.held) (absent_new row e) in
+      omega (arith, place_le n m.held (set_of n row))
+
+  pub put_full : (row : List ℕ) → None ≡ place_kept (meaning_with t rows cap) row → cap ≤ length rows → (Err Full ≡ row_answer (meaning_with t rows cap) row) × (meaning_with t rows cap ≡ row_leaves (meaning_with t rows cap) row)
   put_full row e h =
       let full : leb cap (length m.held) ≡ true = le-leb cap (length m.held) (subst (λ (k : ℕ). cap ≤ k) (sym long) h) in
-      let new : is_held n m.held (set_of n row) ≡ false = le-ltb (place row) (length m.held) (omega (arith, long)) in (
+      let new = absent_new row e in (
         ap (λ (b : Bool). unless (fault_by b false) (place row)) (sym full) ∙ ap (λ (b : Bool). unless (fault_by (nat_le cap (length m.held)) b) (place row)) (sym new),
         ap (λ (b : Bool). left_as row b false) (sym full) ∙ ap (λ (b : Bool). left_as row (nat_le cap (length m.held)) b) (sym new),
       )
 
-  pub put_new : (row : List ℕ) → place_of t.conditions (meaning_with t rows cap).held (set_of t.conditions row) ≡ length rows → length rows < cap → (Ok (place_of t.conditions (meaning_with t rows cap).held (set_of t.conditions row)) ≡ row_answer (meaning_with t rows cap) row) × (pushed_to (meaning_with t rows cap) row ≡ row_leaves (meaning_with t rows cap) row)
+  pub put_new : (row : List ℕ) → None ≡ place_kept (meaning_with t rows cap) row → length rows < cap → (Ok (length rows) ≡ row_answer (meaning_with t rows cap) row) × (pushed_to (meaning_with t rows cap) row ≡ row_leaves (meaning_with t rows cap) row)
   put_new row e h =
       let free : leb cap (length m.held) ≡ false = lt-leb cap (length m.held) (subst (λ (k : ℕ). k < cap) (sym long) h) in
-      let new : is_held n m.held (set_of n row) ≡ false = le-ltb (place row) (length m.held) (omega (arith, long)) in (
-        ap (λ (b : Bool). unless (fault_by b false) (place row)) (sym free) ∙ ap (λ (b : Bool). unless (fault_by (nat_le cap (length m.held)) b) (place row)) (sym new),
+      let new = absent_new row e in (
+        ap Ok (sym (absent_place row e ∙ long)) ∙ ap (λ (b : Bool). unless (fault_by b false) (place row)) (sym free) ∙ ap (λ (b : Bool). unless (fault_by (nat_le cap (length m.held)) b) (place row)) (sym new),
         ap (λ (b : Bool). left_as row b false) (sym free) ∙ ap (λ (b : Bool). left_as row (nat_le cap (length m.held)) b) (sym new),
-      )
-
-  and_never : (b : Bool) → (b && false) ≡ false
-  and_never true = refl
-  and_never false = refl
-
-  pub put_held : (row : List ℕ) → (place_of t.conditions (meaning_with t rows cap).held (set_of t.conditions row) ≢ length rows) → (Ok (place_of t.conditions (meaning_with t rows cap).held (set_of t.conditions row)) ≡ row_answer (meaning_with t rows cap) row) × (meaning_with t rows cap ≡ row_leaves (meaning_with t rows cap) row)
-  put_held row e =
-      let le = place_le n m.held (set_of n row) in
-      let below : place row < length m.held = omega (arith, long, le, e) in
-      let old : is_held n m.held (set_of n row) ≡ true = lt-ltb (place row) (length m.held) below in
-      let full = leb cap (length m.held) in (
-        ap (λ (b : Bool). unless (refuse_if b Full) (place row)) (sym (and_never full)) ∙ ap (λ (b : Bool). unless (fault_by full b) (place row)) (sym old),
-        ap (λ (b : Bool). left_by (refuse_if b Full) m m) (sym (and_never full)) ∙ ap (λ (b : Bool). left_as row full b) (sym old),
       )
 
   -- what putting a set by a call leaves, where the call keeps it as a row

@@ -1,8 +1,9 @@
 -- Rows that lie one after another: where each lies, and what stays where one is added or some are cut.
 -- Assumes nothing.
-use Rattle.std.specs.Prelude.{◌≡◌, ℕ, zero, suc, ◌+◌, ◌*◌, ◌<◌, ◌≤◌, List, [], ◌∷◌, ◌++◌, length, take, drop, slice_index_or, refl}
+use Rattle.std.specs.Prelude.{◌≡◌, ℕ, zero, suc, ◌+◌, ◌*◌, ◌/◌, ◌<◌, ◌≤◌, List, [], ◌∷◌, ◌++◌, length, take, drop, slice_index_or, refl}
 use Rattle.std.proofs.Common.{sym, ◌∙◌, ap, subst, append_assoc, zero-add, suc-add, add-one, arith, length-drop, length-take-le, drop-drop}
 use Rattle.std.proofs.lemmas.List.{take_at, drop_at}
+use Rattle.std.specs.Simd.{first_chunks}
 use Rattle.map_bank.specs.Held.{rows_of}
 
 -- row i lies from word 16i on
@@ -19,6 +20,10 @@ pub rows_shorter : (fewer count : ℕ) (words : List ℕ) → fewer ≤ count �
 rows_shorter zero count words h = refl
 rows_shorter (suc fewer) zero words h = absurd (omega arith)
 rows_shorter (suc fewer) (suc count) words h = ap (λ (rows : List (List ℕ)). take 16 words ∷ rows) (rows_shorter fewer count (drop 16 words) (omega arith))
+
+-- the first of all rows that words have room for, where they are lent as rows
+pub rows_lent : (count : ℕ) (words : List ℕ) (rows : List (List ℕ)) → rows ≡ first_chunks 16 (length words / 16) words → 16 * count ≤ length words → take count rows ≡ rows_of count words
+rows_lent count words rows all room = ap (take count) all ∙ rows_shorter count (length words / 16) words (omega arith)
 
 take_none : {X : Type 0} (m : ℕ) → take {A = X} m [] ≡ []
 take_none zero = refl

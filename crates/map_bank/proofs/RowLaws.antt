@@ -162,6 +162,10 @@ tidy_world n row k tidy h has =
       | inr beyond ↦ absurd (both_ways (in_words row k) (tidy k beyond h) has)
     ]
 
+pub tidy_below : (n : ℕ) (row : List ℕ) (k : ℕ) → Tidy n row → k < 1024 → in_words row k ≡ true → k < 2 ^ n
+tidy_below n row k tidy h has =
+    elim (cases_lt k (2 ^ n)) [ inl below ↦ below | inr beyond ↦ absurd (both_ways (in_words row k) (tidy k beyond h) has) ]
+
 -- that no world passes a test, and that some world does
 none_from : (n : ℕ) (test : World n → Bool) → ((w : World n) → test w ≡ true → ⊥) → true ≡ not (some_world n test)
 none_from n test never =

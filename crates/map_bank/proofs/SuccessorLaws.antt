@@ -217,23 +217,6 @@ TakenRest world effects rest next =
     (n : ℕ) (w : World n) → n ≤ 10 → every (lawful_effect n) (map effect_of effects) ≡ true → apart n (map effect_of effects) ≡ true → number n w ≡ world →
     (v : World n) × (next ≡ number n v) × (apart n (map effect_of rest) ≡ true) × (later n (map effect_of rest) w v ≡ after n (map effect_of effects) w)
 
--- the world that has taken the first i effects
-abbrev pub Taken : ℕ → List code_effect.Effect → ℕ → ℕ → Type 0
-Taken world effects i next = TakenRest world effects (drop i effects) next
-
--- whether a world meets the effect at a place
-abbrev MeetsAt : ℕ → List code_effect.Effect → ℕ → code_effect.Effect → Bool → Type 0
-MeetsAt world effects i d met = (n : ℕ) (w : World n) → number n w ≡ world → meets n w (listed (get_or effects i d).conditions) ≡ met
-
--- the masks tell
-pub met_by_mask : (world : ℕ) (effects : List code_effect.Effect) (masks : List ℕ) (i : ℕ) (d : code_effect.Effect) (met : Bool) → i < length effects → Masked (world / 64) effects masks → eqb (bit_and (get_or masks i 0 / 2 ^ (world % 64)) 1) 1 ≡ met → MeetsAt world effects i d met
-met_by_mask world effects masks i d met h right test n w is =
-    let split : number n w ≡ 64 * (world / 64) + world % 64 = omega arith in
-    sym (right i d h n w (world % 64) (omega arith) split) ∙ sym (shift_test (get_or masks i 0) (world % 64)) ∙ test
-
-pub taken_none : (world : ℕ) (effects : List code_effect.Effect) → Taken world effects 0 world
-taken_none world effects n w small fine clear is = (w, sym is, clear, refl)
-
 rest_skip : (world next : ℕ) (effects rest : List code_effect.Effect) (e : code_effect.Effect) → TakenRest world effects (e ∷ rest) next → ((n : ℕ) (w : World n) → number n w ≡ world → meets n w (listed e.conditions) ≡ false) → TakenRest world effects rest next
 rest_skip world next effects rest e before unmet n w small fine clear is =
     let was = before n w small fine clear is in
@@ -250,27 +233,68 @@ rest_take world next new effects rest e before met within change n w small fine 
       sym (later_take n (effect_of e) (map effect_of rest) w was.0 was.2 (met n w is)) ∙ was.3,
     )
 
--- the effect at a place stands first in the rest
-taken_first : (world next : ℕ) (effects : List code_effect.Effect) (i : ℕ) (d : code_effect.Effect) → i < length effects → Taken world effects i next → TakenRest world effects (get_or effects i d ∷ drop (suc i) effects) next
-taken_first world next effects i d h before =
-    subst (λ (rest : List code_effect.Effect). TakenRest world effects rest next) (drop-cons effects i d h) before
+-- the masks tell whether a world meets the first of some effects
+met_first : (world : ℕ) (e : code_effect.Effect) (rest : List code_effect.Effect) (m : ℕ) (masks : List ℕ) (met : Bool) → Masked (world / 64) (e ∷ rest) (m ∷ masks) → eqb (bit_and (m / 2 ^ (world % 64)) 1) 1 ≡ met → (n : ℕ) (w : World n) → number n w ≡ world → meets n w (listed e.conditions) ≡ met
+met_first world e rest m masks met right test n w is =
+    let split : number n w ≡ 64 * (world / 64) + world % 64 = omega arith in
+    sym (right 0 e (omega arith) n w (world % 64) (omega arith) split) ∙ sym (shift_test m (world % 64)) ∙ test
 
-pub taken_skip : (world next : ℕ) (effects : List code_effect.Effect) (i : ℕ) (d : code_effect.Effect) → i < length effects → Taken world effects i next → MeetsAt world effects i d false → Taken world effects (i + 1) next
-taken_skip world next effects i d h before unmet =
-    subst (λ (j : ℕ). Taken world effects j next) (sym (add-one i))
-    (rest_skip world next effects (drop (suc i) effects) (get_or effects i d) (taken_first world next effects i d h before) unmet)
+-- an outcome's effects that have yet to take hold, and their masks, where the world so far has number next
+pub record Left (world : ℕ) (effects rest : List code_effect.Effect) (masks : List ℕ) (next : ℕ) : Type 0 where
+  pub lawful : (n : ℕ) → every (lawful_effect n) (map effect_of effects) ≡ true → every (lawful_effect n) (map effect_of rest) ≡ true
+  pub room : length rest ≤ length masks
+  pub masked : Masked (world / 64) rest masks
+  pub taken : TakenRest world effects rest next
 
-pub taken_more : (world next new : ℕ) (effects : List code_effect.Effect) (i : ℕ) (d : code_effect.Effect) → i < length effects → Taken world effects i next → MeetsAt world effects i d true → ((n : ℕ) (v : World n) → n ≤ 10 → speaks_within n (get_or effects i d).result ≡ true → number n v ≡ next → new ≡ number n (made n (get_or effects i d).result v)) → Taken world effects (i + 1) new
-taken_more world next new effects i d h before met change =
-    subst (λ (j : ℕ). Taken world effects j new) (sym (add-one i))
-    (rest_take world next new effects (drop (suc i) effects) (get_or effects i d) (taken_first world next effects i d h before) met
-    (λ n fine. result_within n (effect_of (get_or effects i d)) (effect_at n effects i d h fine)) change)
+pub left_all : (world : ℕ) (effects all : List code_effect.Effect) (masks bits : List ℕ) → all ≡ effects → bits ≡ masks → length effects ≤ length masks → Masked (world / 64) effects masks → Left world effects all bits world
+left_all world effects all masks bits is at room right =
+    subst (λ (ms : List ℕ). Left world effects all ms world) (sym at) (subst (λ (es : List code_effect.Effect). Left world effects es masks world) (sym is) (record {
+      lawful = λ n fine. fine;
+      room = room;
+      masked = right;
+      taken = λ n w small fine clear is. (w, sym is, clear, refl);
+    }))
 
-pub taken_all : (world next : ℕ) (effects : List code_effect.Effect) (i : ℕ) → i ≡ length effects → Taken world effects i next → (n : ℕ) (w : World n) → n ≤ 10 → every (lawful_effect n) (map effect_of effects) ≡ true → apart n (map effect_of effects) ≡ true → number n w ≡ world → next ≡ number n (after n (map effect_of effects) w)
-taken_all world next effects i end all n w small fine clear is =
-    let none : drop i effects ≡ [] = ap (λ (j : ℕ). drop j effects) end ∙ drop-length effects in
-    let was = subst (λ (rest : List code_effect.Effect). TakenRest world effects rest next) none all n w small fine clear is in
+-- the first of the effects speaks of lawful conditions
+left_within : (world next : ℕ) (effects rest : List code_effect.Effect) (e : code_effect.Effect) (masks : List ℕ) → Left world effects (e ∷ rest) masks next → (n : ℕ) → every (lawful_effect n) (map effect_of effects) ≡ true → speaks_within n e.result ≡ true
+left_within world next effects rest e masks left n fine =
+    result_within n (effect_of e) (and_parts (lawful_effect n (effect_of e)) (every (lawful_effect n) (map effect_of rest)) (left.lawful n fine)).0
+
+pub left_result : (world next : ℕ) (effects all rest : List code_effect.Effect) (e : code_effect.Effect) (masks : List ℕ) → every (lawful_effect 10) (map effect_of effects) ≡ true → Left world effects all masks next → all ≡ e ∷ rest → speaks_within 10 e.result ≡ true
+left_result world next effects all rest e masks fine left is =
+    left_within world next effects rest e masks (subst (λ (es : List code_effect.Effect). Left world effects es masks next) is left) 10 fine
+
+-- one effect fewer
+left_fewer : (world next new : ℕ) (effects rest : List code_effect.Effect) (e : code_effect.Effect) (masks : List ℕ) (m : ℕ) → Left world effects (e ∷ rest) (m ∷ masks) next → TakenRest world effects rest new → Left world effects rest masks new
+left_fewer world next new effects rest e masks m left taken = record {
+  lawful = λ n fine. (and_parts (lawful_effect n (effect_of e)) (every (lawful_effect n) (map effect_of rest)) (left.lawful n fine)).1;
+  room = let room : suc (length rest) ≤ suc (length masks) = left.room in omega arith;
+  masked = λ i d h. left.masked (suc i) d (omega arith);
+  taken = taken;
+}
+
+left_first : (world next : ℕ) (effects all rest : List code_effect.Effect) (e : code_effect.Effect) (bits masks : List ℕ) (m : ℕ) → Left world effects all bits next → all ≡ e ∷ rest → bits ≡ m ∷ masks → Left world effects (e ∷ rest) (m ∷ masks) next
+left_first world next effects all rest e bits masks m left is at =
+    subst (λ (ms : List ℕ). Left world effects (e ∷ rest) ms next) at (subst (λ (es : List code_effect.Effect). Left world effects es bits next) is left)
+
+pub left_skip : (world next : ℕ) (effects all rest : List code_effect.Effect) (e : code_effect.Effect) (bits masks : List ℕ) (m : ℕ) → Left world effects all bits next → all ≡ e ∷ rest → bits ≡ m ∷ masks → eqb (bit_and (m / 2 ^ (world % 64)) 1) 1 ≡ false → Left world effects rest masks next
+left_skip world next effects all rest e bits masks m left is at test =
+    let first = left_first world next effects all rest e bits masks m left is at in
+    left_fewer world next next effects rest e masks m first
+    (rest_skip world next effects rest e first.taken (met_first world e rest m masks false first.masked test))
+
+pub left_take : (world next new : ℕ) (effects all rest : List code_effect.Effect) (e : code_effect.Effect) (bits masks : List ℕ) (m : ℕ) → Left world effects all bits next → all ≡ e ∷ rest → bits ≡ m ∷ masks → eqb (bit_and (m / 2 ^ (world % 64)) 1) 1 ≡ true → ((n : ℕ) (v : World n) → n ≤ 10 → speaks_within n e.result ≡ true → number n v ≡ next → new ≡ number n (made n e.result v)) → Left world effects rest masks new
+left_take world next new effects all rest e bits masks m left is at test change =
+    let first = left_first world next effects all rest e bits masks m left is at in
+    left_fewer world next new effects rest e masks m first
+    (rest_take world next new effects rest e first.taken (met_first world e rest m masks true first.masked test) (left_within world next effects rest e (m ∷ masks) first) change)
+
+-- where no effect is left, the world is that after the outcome
+pub left_none : (world next : ℕ) (effects : List code_effect.Effect) (rest : List code_effect.Effect) (masks : List ℕ) → length rest ≡ 0 → Left world effects rest masks next → (n : ℕ) (w : World n) → n ≤ 10 → every (lawful_effect n) (map effect_of effects) ≡ true → apart n (map effect_of effects) ≡ true → number n w ≡ world → next ≡ number n (after n (map effect_of effects) w)
+left_none world next effects [] masks none left n w small fine clear is =
+    let was = left.taken n w small fine clear is in
     was.1 ∙ ap (number n) (sym (later_none n w was.0) ∙ was.3)
+left_none world next effects (e ∷ rest) masks none left n w small fine clear is = absurd (omega arith)
 
 -- ## Lawful among ten conditions
 

@@ -3,7 +3,6 @@
 pub mod map_bank;
 mod places;
 mod row;
-mod rows;
 mod steps;
 mod successors;
 mod table;

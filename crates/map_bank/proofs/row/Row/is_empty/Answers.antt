@@ -1,5 +1,5 @@
 -- A word that is not 0 has a world, since the row is tidy; words that are 0 have none.
-use Rattle.std.proofs.Common.{◌≡◌, ℕ, ◌<◌, ◌^◌, rules, tests}
+use Rattle.std.proofs.Common.{◌≡◌, ℕ, ◌<◌, ◌^◌, rules}
 use Rattle.std.proofs.lemmas.Iterator.{YieldsList-from_slice, cases_from_all}
 use Rattle.map_bank.proofs.RowLaws.{empty_row}
 use Rattle.map_bank.proofs.row.Row.is_empty.Goals as goal

@@ -1,5 +1,5 @@
-use Rattle.std.proofs.Common.{arith, rules}
-use Rattle.map_bank.proofs.RowLaws.{OutsideWord, WordsTo, made_words, outside_word, outside_worlds, outside_tidy}
+use Rattle.std.proofs.Common.{rules}
+use Rattle.map_bank.proofs.RowLaws.{OutsideWord, made_words, outside_word, outside_worlds, outside_tidy}
 use Rattle.map_bank.proofs.row.Row.outside.Goals as goal
 
 pub invariant_of-result : goal.invariant_of-result

@@ -1,5 +1,5 @@
 -- Each turn decides one world number of the union of the terms' worlds.
-use Rattle.std.proofs.Common.{ℕ, ◌≡◌, ◌+◌, ◌*◌, ◌%◌, ◌^◌, List, map, sym, ◌∙◌, subst, ap, arith}
+use Rattle.std.proofs.Common.{◌+◌, ◌*◌, ◌%◌, ◌^◌, map, sym, ◌∙◌, subst, ap, arith}
 use Rattle.worlds.specs.Meaning.{listed}
 use Rattle.map_bank.specs.declared.row.Row.{Row}
 use Rattle.map_bank.proofs.RowLaws.{TrimmedTo, lawful_speak, shift_worlds, few_worlds, trimmed_with, trimmed_without, start_worlds}
