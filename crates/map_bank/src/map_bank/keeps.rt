@@ -28,9 +28,8 @@ impl MapBank {
     pub fn row(&self, set: usize) -> Option<[u64; 16]>
         ensures { result ≡ row_kept set (means_of self.now).kept }
     {
-        first_rows(self.words.as_slice(), self.count)
-            .get(set)
-            .copied()
+        let rows = first_rows(self.words.as_slice(), self.count);
+        rows.get(set).copied()
     }
 
     // A held set.
