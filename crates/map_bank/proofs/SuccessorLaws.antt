@@ -1,6 +1,6 @@
 -- The worlds that outcomes give from a set, by their numbers.
 -- Assumes nothing.
-use Rattle.std.proofs.Common.{◌≡◌, ℕ, zero, suc, ◌+◌, ◌-◌, ◌*◌, ◌/◌, ◌%◌, ◌^◌, ◌<◌, ◌≤◌, Bool, true, false, cond, not, ◌&&◌, ◌||◌, eqb, ltb, leb, List, [], ◌∷◌, map, length, get_or, drop, set, replicate, pos, negsuc, nat_abs, sym, refl, ap, ◌∙◌, subst, ap₂, inl, inr, lt_of_lt_of_le, lt_of_le_of_lt, add-zero, add_assoc, add-suc, add-one, arith, drop-cons, get_or-set_other, get_or-set_same, pow_mono}
+use Rattle.std.proofs.Common.{◌≡◌, ℕ, zero, suc, ◌+◌, ◌-◌, ◌*◌, ◌/◌, ◌%◌, ◌^◌, ◌<◌, ◌≤◌, Bool, true, false, cond, not, ◌&&◌, ◌||◌, eqb, ltb, leb, List, [], ◌∷◌, map, length, get_or, drop, set, pos, negsuc, nat_abs, sym, refl, ap, ◌∙◌, subst, ap₂, inl, inr, lt_of_lt_of_le, lt_of_le_of_lt, add-zero, add_assoc, add-suc, add-one, arith, drop-cons, get_or-set_other, get_or-set_same, pow_mono}
 use lib.Bits.{bit_and, bit_or, and_le_l, or_lt}
 use lib.Dec.{eqb-suc-suc}
 use lib.ListN.{length-map}
@@ -470,18 +470,6 @@ PutRest n outcomes rest row new =
 abbrev pub PutFirst : (n : ℕ) → List code_outcome.Outcome → ℕ → List ℕ → List ℕ → Type 0
 PutFirst n outcomes i row new = PutRest n outcomes (drop i outcomes) row new
 
--- a row of zeros is empty
-zeros_at : (m i : ℕ) → get_or {A = ℕ} (replicate m 0) i 0 ≡ 0
-zeros_at zero i = refl
-zeros_at (suc m) zero = refl
-zeros_at (suc m) (suc i) = zeros_at m i
-
-none_in_zeros : (x : ℕ) → in_words (replicate 16 0) x ≡ false
-none_in_zeros x = ap (λ (word : ℕ). bit word (x % 64)) (zeros_at 16 (x / 64)) ∙ bit_zero (x % 64)
-
-pub given_none : (n : ℕ) (outcomes : List code_outcome.Outcome) (row : List ℕ) → PutFirst n outcomes 0 row (replicate 16 0)
-given_none n outcomes row x = ap (λ (b : Bool). b || given n (map outcome_of outcomes) row x) (sym (none_in_zeros x))
-
 pub outcome_at : (n : ℕ) (outcomes : List code_outcome.Outcome) (i : ℕ) (d : code_outcome.Outcome) → i < length outcomes → every (lawful_outcome n) (map outcome_of outcomes) ≡ true → lawful_outcome n (outcome_of (get_or outcomes i d)) ≡ true
 outcome_at n outcomes i d h all = every_at (lawful_outcome n) outcome_of outcomes i d h all
 
@@ -534,19 +522,6 @@ gives_parts n o row x j so =
 -- worlds with one number are one
 same_number : (n : ℕ) (v w : World n) → number n v ≡ number n w → v ≡ w
 same_number n v w same = sym (world_of_number n v) ∙ ap (world_of n) same ∙ world_of_number n w
-
--- no number beyond the worlds is given
-pub given_far : (n : ℕ) (os : List Outcome) (row : List ℕ) (x : ℕ) → 2 ^ n ≤ x → given n os row x ≡ false
-given_far n [] row x far = refl
-given_far n (o ∷ os) row x far =
-    or_from _ _
-    (cannot_pass _
-    (λ some.
-    let found = some_found 1024 (gives n o row x) some in
-    let is = (gives_parts n o row x found.0 found.1).2 in
-    let near = number_lt n (after n o (world_of n found.0)) in
-    omega arith))
-    (given_far n os row x far)
 
 given_found : (n : ℕ) (os : List Outcome) (row : List ℕ) (v : World n) → given n os row (number n v) ≡ true → (j : ℕ) × (j < 2 ^ n) × (in_words row j ≡ true) × (may_give n os (world_of n j) v ≡ true)
 given_found n [] row v some = absurd (false≢true some)

@@ -21,9 +21,6 @@ terms_lawful_parts t h =
     let terms = and_parts (nat_lt 0 (length t.terms)) (nat_le (length t.terms) 256 && every (lawful_list n 32) t.terms) b.0 in
     (ltb-true 0 _ terms.0, (and_parts (nat_le (length t.terms) 256) (every (lawful_list n 32) t.terms) terms.1).1)
 
-pub terms_lawful : (t : Ticket) → lawful t ≡ true → every (lawful_list t.conditions 32) t.terms ≡ true
-terms_lawful t h = (terms_lawful_parts t h).1
-
 steps_lawful : (t : Ticket) → lawful t ≡ true → every (lawful_step t.conditions) t.steps ≡ true
 steps_lawful t h =
     let n = t.conditions in
