@@ -14,7 +14,7 @@ use Rattle.map_bank.specs.Numbers.{world_of, in_words, set_of}
 use Rattle.map_bank.specs.Rows.{Tidy}
 use Rattle.map_bank.proofs.BitLaws.{bit_lowest, bit_above, same_bits}
 use Rattle.map_bank.proofs.NumberLaws.{number_of_world, lowest_digit, digits_above, digit_below}
-use Rattle.map_bank.proofs.TruthTable.{same_value_is}
+use Rattle.map_bank.proofs.SameLaws.{same_value_is}
 
 bit_by : (m : ℕ) (test : ℕ → Bool) (i : ℕ) → i < m → bit (word_by m test) i ≡ test i
 unfolding word_by

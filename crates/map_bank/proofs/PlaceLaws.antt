@@ -1,15 +1,14 @@
 -- Where a row's set stands among the sets of rows, and which lists of sets stay pairwise different.
 -- Assumes nothing.
-use Rattle.std.specs.Prelude.{◌≡◌, ℕ, zero, suc, ◌+◌, ◌-◌, ◌*◌, ◌^◌, ◌<◌, ◌≤◌, Bool, true, false, cond, not, ◌&&◌, Option, Some, None, List, [], ◌∷◌, ◌++◌, map, length, take, drop, ◌≢◌, slice_index, slice_index_or, refl}
+use Rattle.std.specs.Prelude.{◌≡◌, ℕ, zero, suc, ◌+◌, ◌-◌, ◌*◌, ◌^◌, ◌<◌, ◌≤◌, true, false, cond, not, ◌&&◌, Option, Some, None, List, [], ◌∷◌, ◌++◌, map, length, take, drop, ◌≢◌, slice_index, slice_index_or, refl}
 use Rattle.std.proofs.Common.{sym, ◌∙◌, ap, subst, inl, inr, add-one, arith, length-drop, length-take}
-use Rattle.std.proofs.lemmas.Bool.{cond-false, cond-true, both_ways, and_parts, and_from, not_from_false, not-true, cases_lt, lt-ltb, le-ltb}
+use Rattle.std.proofs.lemmas.Bool.{cond-false, cond-true, and_parts, and_from, not_from_false, not-true, cases_lt, lt-ltb, le-ltb}
 use Rattle.std.proofs.lemmas.Iterator.{index_from_first}
 use Rattle.std.specs.List.{AllWithin, HoldsAt}
 use Rattle.std.specs.Option.{MatchOption, unwrap_or}
 use Rattle.std.proofs.lemmas.List.{get_or-take, get_or-drop, get_or_past, length-take-le, length-map}
-use Rattle.worlds.specs.Worlds.{World, some_world}
-use Rattle.worlds.specs.Sets.{Worlds, none_in, same_set, same_value}
-use Rattle.worlds.proofs.Compatible.{the_world, cannot_pass}
+use Rattle.worlds.specs.Sets.{Worlds, none_in, same_set}
+use Rattle.worlds.proofs.Compatible.{cannot_pass}
 use Rattle.bank.specs.Meaning.{all_different, differs_from}
 use Rattle.bank.specs.Calls.{place_of, is_held, set_at}
 use Rattle.map_bank.specs.Held.{rows_of, AllTidy, length_rows}
@@ -18,19 +17,7 @@ use Rattle.map_bank.specs.Rows.{Tidy}
 use Rattle.map_bank.proofs.BitLaws.{bit_zero}
 use Rattle.map_bank.proofs.CanonLaws.{rows_same}
 use Rattle.map_bank.proofs.HeldLaws.{row_is}
-
--- ## Sets
-
-no_world : (n : ℕ) (test : World n → Bool) → ((w : World n) → test w ≡ false) → some_world n test ≡ false
-no_world n test never = cannot_pass (some_world n test) (λ some. let found = the_world n test some in both_ways _ (never found.0) found.1)
-
-value_self : (b : Bool) → not (same_value b b) ≡ false
-value_self true = refl
-value_self false = refl
-
--- every set is the same as itself
-pub same_set_self : (n : ℕ) (s : Worlds n) → same_set n s s ≡ true
-same_set_self n s = ap not (no_world n (λ w. not (same_value (s w) (s w))) (λ w. value_self (s w)))
+use Rattle.map_bank.proofs.SameLaws.{same_set_self}
 
 -- ## Tidy rows
 

@@ -1,6 +1,6 @@
 -- Rows of sixteen words: what a loop over the words shows of the set that a row keeps.
 -- Assumes nothing.
-use Rattle.std.proofs.Common.{◌≡◌, ℕ, zero, suc, ◌+◌, ◌-◌, ◌*◌, ◌/◌, ◌%◌, ◌^◌, ◌<◌, ◌≤◌, Bool, true, false, not, ◌&&◌, ◌||◌, eqb, ltb, leb, List, [], ◌∷◌, length, get_or, drop, pos, negsuc, sym, refl, ap, ◌∙◌, subst, ap₂, inl, inr, pow-suc, add-one, arith, drop-cons, pow_mono}
+use Rattle.std.proofs.Common.{◌≡◌, ℕ, zero, suc, ◌+◌, ◌-◌, ◌*◌, ◌/◌, ◌%◌, ◌^◌, ◌<◌, ◌≤◌, Bool, true, false, not, ◌&&◌, ◌||◌, eqb, ltb, leb, List, [], ◌∷◌, length, get_or, drop, sym, ap, ◌∙◌, subst, ap₂, inl, inr, pow-suc, add-one, arith, drop-cons, pow_mono}
 use lib.Bits.{bit_and, bit_or}
 use lib.Seq.{drop-length}
 use Rattle.std.specs.Fn.{Called}
@@ -10,7 +10,7 @@ use denote.Param.Members.{Mut}
 use Rattle.std.specs.Array.{IsFromFnResultFrom, IsFromFnResult}
 use Rattle.std.proofs.Math.Path.{fun_ext}
 use Rattle.std.proofs.lemmas.Nat.{one_shl}
-use Rattle.std.proofs.lemmas.Bool.{both_ways, eqb-false, leb-true, lt-ltb, le-leb, cases_eq, cases_lt, cases_Bool, and_parts, and_from, and_left}
+use Rattle.std.proofs.lemmas.Bool.{both_ways, eqb-false, lt-ltb, cases_eq, cases_lt, cases_Bool, and_parts, and_left}
 use Rattle.std.proofs.lemmas.Bool.Decides.{nat_tests}
 use Rattle.worlds.specs.Worlds.{World, Literal, meets, some_world, speaks_within, consistent}
 use Rattle.worlds.specs.Tickets.{meets_some, every, lawful_list}
@@ -21,13 +21,15 @@ use Rattle.map_bank.specs.Numbers.{number, world_of, in_words, set_of}
 use Rattle.map_bank.specs.Rows.{Tidy}
 use Rattle.map_bank.proofs.BitLaws.{bit_of_and, bit_of_or, bit_lowest, bit_above, bit_zero, bit_complement}
 use Rattle.map_bank.proofs.NumberLaws.{number_lt, number_below, number_of_world}
-use Rattle.map_bank.proofs.WordLaws.{or_none, every_from}
+use Rattle.map_bank.proofs.TicketLaws.{every_more, all_speak_wider}
+use Rattle.std.proofs.Math.Bool.{or-false, or_assoc}
+use Rattle.map_bank.proofs.WordLaws.{every_from}
 
 -- ## A row made word by word
 
--- the first i of sixteen words are as a rule has them
-abbrev pub WordsTo : (ℕ → ℕ → Type 0) → List ℕ → ℕ → Type 0
-WordsTo rule words i = (length words ≡ 16) × ((j : ℕ) → j < i → rule j (get_or words j 0))
+-- sixteen words are as a rule has them
+abbrev pub Words : (ℕ → ℕ → Type 0) → List ℕ → Type 0
+Words rule words = (length words ≡ 16) × ((j : ℕ) → j < 16 → rule j (get_or words j 0))
 
 -- the words that a function makes, call by call, are as the rule has them, where it keeps nothing between calls
 made_from : {F : Type 0} (g : Mut F (ℕ × Unit {0}) ℕ) (rule : ℕ → ℕ → Type 0) (f : F) → ((j word : ℕ) (q : F) → j < 16 → Called g f (j, tt) word q → rule j word × (q ≡ f)) → (words : List ℕ) (i m : ℕ) → i + m ≤ 16 → IsFromFnResultFrom g f words i m → (j : ℕ) → i ≤ j → j < i + m → rule j (get_or words j 0)
@@ -41,12 +43,12 @@ made_from {F} g rule f says words i (suc m) end made j low high =
           (subst (λ (q : F). IsFromFnResultFrom g q words (i + 1) m) told.1 made.4) j (omega arith) (omega arith)
     ]
 
-pub made_words : {F : Type 0} (g : Mut F (ℕ × Unit {0}) ℕ) (rule : ℕ → ℕ → Type 0) (f : F) → ((j word : ℕ) (q : F) → j < 16 → Called g f (j, tt) word q → rule j word × (q ≡ f)) → (words : List ℕ) → IsFromFnResult g f words 16 → WordsTo rule words 16
+pub made_words : {F : Type 0} (g : Mut F (ℕ × Unit {0}) ℕ) (rule : ℕ → ℕ → Type 0) (f : F) → ((j word : ℕ) (q : F) → j < 16 → Called g f (j, tt) word q → rule j word × (q ≡ f)) → (words : List ℕ) → IsFromFnResult g f words 16 → Words rule words
 made_words g rule f says words made = (made.long, λ j h. made_from g rule f says words 0 16 (omega arith) made.each j (omega arith) h)
 
 -- the word of a world number below 1024
-pub words_all : (rule : ℕ → ℕ → Type 0) (words : List ℕ) (i : ℕ) → 16 ≤ i → WordsTo rule words i → (k : ℕ) → k < 1024 → rule (k / 64) (get_or words (k / 64) 0)
-words_all rule words i end first k h = first.1 (k / 64) (omega arith)
+pub words_all : (rule : ℕ → ℕ → Type 0) (words : List ℕ) → Words rule words → (k : ℕ) → k < 1024 → rule (k / 64) (get_or words (k / 64) 0)
+words_all rule words first k h = first.1 (k / 64) (omega arith)
 
 -- a world number is that of its word and its bit
 rejoined : (k : ℕ) → 64 * (k / 64) + k % 64 ≡ k
@@ -73,14 +75,14 @@ pub outside_word : (row : List ℕ) (list : List Literal) (j mask : ℕ) → mas
 outside_word row list j mask small right n w b hb is =
     bit_outside (get_or row j 0) mask b small hb ∙ ap (λ (x : Bool). bit (get_or row j 0) b && not x) (right n w b hb is)
 
-outside_worlds_at : (row made : List ℕ) (list : List Literal) → WordsTo (OutsideWord row list) made 16 → (n : ℕ) → n ≤ 10 → (w : World n) → set_of n made w ≡ (set_of n row w && not (meets n w list))
+outside_worlds_at : (row made : List ℕ) (list : List Literal) → Words (OutsideWord row list) made → (n : ℕ) → n ≤ 10 → (w : World n) → set_of n made w ≡ (set_of n row w && not (meets n w list))
 outside_worlds_at row made list first n few w =
-    words_all (OutsideWord row list) made 16 (omega arith) first (number n w) (number_below n w few) n w (number n w % 64) (omega arith) (sym (rejoined (number n w)))
+    words_all (OutsideWord row list) made first (number n w) (number_below n w few) n w (number n w % 64) (omega arith) (sym (rejoined (number n w)))
 
-pub outside_worlds : (n : ℕ) (row made : List ℕ) (list : List Literal) → n ≤ 10 → WordsTo (OutsideWord row list) made 16 → (w : World n) → set_of n made w ≡ (set_of n row w && not (meets n w list))
+pub outside_worlds : (n : ℕ) (row made : List ℕ) (list : List Literal) → n ≤ 10 → Words (OutsideWord row list) made → (w : World n) → set_of n made w ≡ (set_of n row w && not (meets n w list))
 outside_worlds n row made list few first = outside_worlds_at row made list first n few
 
-pub outside_tidy : (n : ℕ) (row made : List ℕ) (list : List Literal) → n ≤ 10 → Tidy n row → WordsTo (OutsideWord row list) made 16 → Tidy n made
+pub outside_tidy : (n : ℕ) (row made : List ℕ) (list : List Literal) → n ≤ 10 → Tidy n row → Words (OutsideWord row list) made → Tidy n made
 outside_tidy n row made list few tidy first k beyond h =
     let is : number 10 (world_of 10 k) ≡ k = number_of_world 10 k h in
     ap (in_words made) (sym is) ∙ outside_worlds_at row made list first 10 (omega arith) (world_of 10 k)
@@ -133,8 +135,8 @@ some_from n test w passes = sym (ap not (some_world_from n test w passes))
 
 -- ## A row without worlds
 
-pub row_none : (row : List ℕ) (i : ℕ) → 16 ≤ i → ((j : ℕ) → j < i → get_or row j 0 ≡ 0) → (n : ℕ) → n ≤ 10 → true ≡ none_in n (set_of n row)
-row_none row i end all n few =
+pub row_none : (row : List ℕ) → ((j : ℕ) → j < 16 → get_or row j 0 ≡ 0) → (n : ℕ) → n ≤ 10 → true ≡ none_in n (set_of n row)
+row_none row all n few =
     none_from n (set_of n row) (λ w has.
     let k = number n w in
     let below : k < 1024 = number_below n w few in
@@ -150,16 +152,12 @@ row_some row j hj fits some n tidy =
 
 -- what is told of all words of a row tells whether its set is empty
 pub empty_row : (n : ℕ) (row : List ℕ) (told : Bool) → n ≤ 10 → Tidy n row → length row ≡ 16 → MatchBool told (AllWithin (λ (x : ℕ). x ≡ 0) row 0 (length row)) ((j : ℕ) × (j < length row) × HoldsAt (λ (x : ℕ). (x ≡ 0 → ⊥) × (x < 2 ^ 64)) row j) → told ≡ none_in n (set_of n row)
-empty_row n row true few tidy long all = row_none row 16 (omega arith) (λ j h. all j 0 (omega arith) (omega arith)) n few
+empty_row n row true few tidy long all = row_none row (λ j h. all j 0 (omega arith) (omega arith)) n few
 empty_row n row false few tidy long some = row_some row some.0 (let h : some.0 < length row = some.1 in omega arith) (some.2 0).1 (some.2 0).0 n tidy
 
 -- ## Rows are the same exactly where their sets are
 
 -- ## The worlds that meet at least one term
-
-or_regroups : (x y z : Bool) → (x || (y || z)) ≡ ((x || y) || z)
-or_regroups true y z = refl
-or_regroups false y z = refl
 
 -- a world meets some of the lists where its bit in word k is one or it meets some of the rest
 abbrev Joins : ℕ → ℕ → List (List Literal) → List (List Literal) → Type 0
@@ -170,7 +168,7 @@ joins_more : (mask more k : ℕ) (lists rest : List (List Literal)) (list : List
 joins_more mask more k lists rest list before right n w b hb is =
     before n w b hb is
     ∙ ap (λ (x : Bool). bit mask b || (x || meets_some n w rest)) (sym (right n w b hb is))
-    ∙ or_regroups (bit mask b) (bit more b) (meets_some n w rest)
+    ∙ sym (or_assoc (bit mask b) (bit more b) (meets_some n w rest))
     ∙ ap (λ (x : Bool). x || meets_some n w rest) (sym (bit_of_or mask more b))
 
 -- word k after the first i lists: their worlds, and the lists left to come are of conditions 1 to 10
@@ -196,11 +194,11 @@ UnionWord lists k word = (n : ℕ) (w : World n) (b : ℕ) → b < 64 → number
 pub joins_first_all : (mask k : ℕ) (lists : List (List Literal)) (i : ℕ) → i ≡ length lists → JoinsFirst mask k lists i → UnionWord lists k mask
 joins_first_all mask k lists i end first n w b hb is =
     let rest : drop i lists ≡ [] = ap (λ (j : ℕ). drop j lists) end ∙ drop-length lists in
-    sym (subst (λ (ls : List (List Literal)). Joins mask k lists ls) rest first.1 n w b hb is ∙ or_none (bit mask b))
+    sym (subst (λ (ls : List (List Literal)). Joins mask k lists ls) rest first.1 n w b hb is ∙ or-false (bit mask b))
 
-pub union_worlds : (lists : List (List Literal)) (made : List ℕ) (i : ℕ) → 16 ≤ i → WordsTo (UnionWord lists) made i → (n : ℕ) → n ≤ 10 → (w : World n) → set_of n made w ≡ meets_some n w lists
-union_worlds lists made i end first n few w =
-    words_all (UnionWord lists) made i end first (number n w) (number_below n w few) n w (number n w % 64) (omega arith)
+pub union_worlds : (lists : List (List Literal)) (made : List ℕ) → Words (UnionWord lists) made → (n : ℕ) → n ≤ 10 → (w : World n) → set_of n made w ≡ meets_some n w lists
+union_worlds lists made first n few w =
+    words_all (UnionWord lists) made first (number n w) (number_below n w few) n w (number n w % 64) (omega arith)
     (sym (rejoined (number n w)))
 
 -- ## A row without the bits beyond its worlds
@@ -233,28 +231,12 @@ trimmed_without row kept i lacks before k =
 
 -- ## The starting worlds
 
-speaks_more : (m n : ℕ) → m ≤ n → (l : Literal) → speaks_within m l ≡ true → speaks_within n l ≡ true
-speaks_more m n h (pos p) within =
-    let parts = and_parts (ltb 0 p) (leb p m) within in
-    let most : p ≤ m = leb-true p m parts.1 in
-    and_from (ltb 0 p) (leb p n) parts.0 (le-leb p n (omega arith))
-speaks_more m n h (negsuc p) within =
-    let most : suc p ≤ m = leb-true (suc p) m within in
-    le-leb (suc p) n (omega arith)
-
-every_more : {X : Type 0} (test other : X → Bool) → ((x : X) → test x ≡ true → other x ≡ true) → (xs : List X) → every test xs ≡ true → every other xs ≡ true
-every_more test other more [] all = refl
-every_more test other more (x ∷ xs) all =
-    let parts = and_parts (test x) (every test xs) all in
-    and_from (other x) (every other xs) (more x parts.0) (every_more test other more xs parts.1)
-
 -- lawful lists of n conditions are of conditions 1 to 10 where n is at most 10
 pub lawful_speak : (n : ℕ) → n ≤ 10 → (lists : List (List Literal)) → every (lawful_list n 32) lists ≡ true → every (every (speaks_within 10)) lists ≡ true
 lawful_speak n few lists lawful =
     every_more (lawful_list n 32) (every (speaks_within 10)) (λ ls one.
     let speaks = (and_parts (leb (length ls) 32) (every (speaks_within n) ls && consistent ls) one).1 in
-    every_more (speaks_within n) (speaks_within 10) (speaks_more n 10 few) ls
-    (and_parts (every (speaks_within n) ls) (consistent ls) speaks).0)
+    all_speak_wider n ls few (and_parts (every (speaks_within n) ls) (consistent ls) speaks).0)
     lists lawful
 
 pub start_worlds : (n : ℕ) (lists : List (List Literal)) (union made : List ℕ) → ((w : World n) → set_of n union w ≡ meets_some n w lists) → TrimmedTo union made (2 ^ n) → (w : World n) → set_of n made w ≡ meets_some n w lists

@@ -8,13 +8,13 @@ use lib.Seq.{drop-length}
 use lib.IntN.{neg_ℤ-neg_ℤ}
 use lib.Signed.{lt_z}
 use Rattle.std.proofs.lemmas.Nat.{pow_below, one_shl}
-use Rattle.std.proofs.lemmas.Bool.{cases_eq, both_ways, not-true, true≢false, false≢true, eqb-true, eq-eqb, ltb-true, ltb-false, lt-ltb, leb-true, le-leb, and_parts, and_from, and_left, and_right, or_cases, or_from, or_left, or_right}
+use Rattle.std.proofs.lemmas.Bool.{cases_eq, both_ways, not-true, true≢false, false≢true, eqb-true, eq-eqb, ltb-true, ltb-false, lt-ltb, leb-true, and_parts, and_from, and_left, and_right, or_cases, or_from, or_left, or_right}
 use Rattle.worlds.specs.declared.step.Effect as code_effect
 use Rattle.worlds.specs.declared.step.Outcome as code_outcome
 use Rattle.worlds.specs.Meaning.{effect_of, outcome_of, listed}
 use Rattle.worlds.specs.Worlds.{World, value, world_by, Literal, opposite, same_literal, meets, speaks_within, consistent}
 use Rattle.worlds.specs.Steps.{Effect, Outcome, brings, after}
-use Rattle.worlds.specs.Sets.{same_value, same_world, may_give, successor}
+use Rattle.worlds.specs.Sets.{same_world, may_give, successor}
 use Rattle.worlds.specs.Tickets.{every, lawful_list, lawful_effect, clashes_later, apart, lawful_outcome}
 use Rattle.worlds.proofs.Compatible.{same_tests, cannot_pass, same_literal_is, value_rest, value_by}
 use Rattle.worlds.proofs.TakeHold.{brought_by, met_clash, clashes_in}
@@ -23,7 +23,9 @@ use Rattle.map_bank.specs.Numbers.{number, world_of, in_words, set_of}
 use Rattle.map_bank.specs.Successors.{made, Masked, gives, some_from}
 use Rattle.map_bank.proofs.BitLaws.{bit_of_and, bit_zero, bit_put, bit_power, bit_complement, same_bits_at, shift_test}
 use Rattle.map_bank.proofs.NumberLaws.{number_lt, world_of_number, number_of_world, some_number, number_some, value_bit_suc}
-use Rattle.map_bank.proofs.WordLaws.{or_none}
+use Rattle.map_bank.proofs.SameLaws.{same_world_self, same_world_is}
+use Rattle.map_bank.proofs.TicketLaws.{every_more, speaks_wider, all_speak_wider}
+use Rattle.std.proofs.Math.Bool.{or-false, or_assoc}
 
 -- ## Worlds by rules
 
@@ -298,29 +300,13 @@ left_none world next effects (e ∷ rest) masks none left n w small fine clear i
 
 -- ## Lawful among ten conditions
 
-speaks_ten : (n : ℕ) (l : Literal) → n ≤ 10 → speaks_within n l ≡ true → speaks_within 10 l ≡ true
-speaks_ten n (pos p) small within =
-    let parts = and_parts (ltb 0 p) (leb p n) within in
-    let low : p ≤ n = leb-true p n parts.1 in
-    and_from _ _ parts.0 (le-leb p 10 (omega arith))
-speaks_ten n (negsuc m) small within =
-    let low : suc m ≤ n = leb-true (suc m) n within in
-    le-leb (suc m) 10 (omega arith)
-
--- where each that passes one test passes another, a list that passes the one passes the other
-every_also : {X : Type 0} (test other : X → Bool) → ((x : X) → test x ≡ true → other x ≡ true) → (xs : List X) → every test xs ≡ true → every other xs ≡ true
-every_also test other also [] all = refl
-every_also test other also (x ∷ xs) all =
-    let parts = and_parts (test x) (every test xs) all in
-    and_from _ _ (also x parts.0) (every_also test other also xs parts.1)
-
 effect_ten : (n : ℕ) (e : Effect) → n ≤ 10 → lawful_effect n e ≡ true → lawful_effect 10 e ≡ true
 effect_ten n e small fine =
     let parts = and_parts (lawful_list n 4 e.conditions) (speaks_within n e.result) fine in
     let list = and_parts (leb (length e.conditions) 4) (every (speaks_within n) e.conditions && consistent e.conditions) parts.0 in
     let lists = and_parts (every (speaks_within n) e.conditions) (consistent e.conditions) list.1 in
-    let within = every_also (speaks_within n) (speaks_within 10) (λ l h. speaks_ten n l small h) e.conditions lists.0 in
-    and_from _ _ (and_from _ _ list.0 (and_from _ _ within lists.1)) (speaks_ten n e.result small parts.1)
+    let within = all_speak_wider n e.conditions small lists.0 in
+    and_from _ _ (and_from _ _ list.0 (and_from _ _ within lists.1)) (speaks_wider n e.result small parts.1)
 
 -- what a lawful outcome is: few effects, each lawful, none against another
 pub lawful_few : (n : ℕ) (effects : List code_effect.Effect) → lawful_outcome n (map effect_of effects) ≡ true → length effects ≤ 4
@@ -338,13 +324,9 @@ lawful_apart n o fine =
     (and_parts (every (lawful_effect n) o) (apart n o) (and_parts (leb (length o) 4) (every (lawful_effect n) o && apart n o) fine).1).1
 
 pub lawful_ten : (n : ℕ) (o : Outcome) → n ≤ 10 → lawful_outcome n o ≡ true → every (lawful_effect 10) o ≡ true
-lawful_ten n o small fine = every_also (lawful_effect n) (lawful_effect 10) (λ e h. effect_ten n e small h) o (lawful_effects n o fine)
+lawful_ten n o small fine = every_more (lawful_effect n) (lawful_effect 10) (λ e h. effect_ten n e small h) o (lawful_effects n o fine)
 
 -- ## Whether one of some numbers passes a test
-
-or_regroups : (x y z : Bool) → (x || (y || z)) ≡ ((x || y) || z)
-or_regroups true y z = refl
-or_regroups false y z = refl
 
 some_none : (start : ℕ) (test : ℕ → Bool) → some_from start 0 test ≡ false
 unfolding some_from
@@ -357,11 +339,11 @@ some_more start m test = refl
 some_split : (start m p : ℕ) (test : ℕ → Bool) → some_from start (m + p) test ≡ (some_from start m test || some_from (start + m) p test)
 some_split start m zero test =
     ap (λ (q : ℕ). some_from start q test) (add-zero m)
-    ∙ sym (or_none (some_from start m test)) ∙ ap (λ (b : Bool). some_from start m test || b) (sym (some_none (start + m) test))
+    ∙ sym (or-false (some_from start m test)) ∙ ap (λ (b : Bool). some_from start m test || b) (sym (some_none (start + m) test))
 some_split start m (suc p) test =
     ap (λ (q : ℕ). some_from start q test) (add-suc m p) ∙ some_more start (m + p) test
     ∙ ap₂ (λ (a b : Bool). a || b) (some_split start m p test) (ap test (sym (add_assoc start m p)))
-    ∙ sym (or_regroups (some_from start m test) (some_from (start + m) p test) (test (start + m + p)))
+    ∙ or_assoc (some_from start m test) (some_from (start + m) p test) (test (start + m + p))
     ∙ ap (λ (b : Bool). some_from start m test || b) (sym (some_more (start + m) p test))
 
 -- one that passes, where some does
@@ -391,13 +373,13 @@ Puts n o row start m old new = (x : ℕ) → in_words new x ≡ (in_words old x 
 
 pub puts_none : (n : ℕ) (o : Outcome) (row : List ℕ) (start : ℕ) (old : List ℕ) → Puts n o row start 0 old old
 puts_none n o row start old x =
-    sym (or_none (in_words old x)) ∙ ap (λ (b : Bool). in_words old x || b) (sym (some_none start (gives n o row x)))
+    sym (or-false (in_words old x)) ∙ ap (λ (b : Bool). in_words old x || b) (sym (some_none start (gives n o row x)))
 
 -- one world more
 puts_more : (n : ℕ) (o : Outcome) (row : List ℕ) (start m : ℕ) (old mid new : List ℕ) → Puts n o row start m old mid → ((x : ℕ) → in_words new x ≡ (in_words mid x || gives n o row x (start + m))) → Puts n o row start (m + 1) old new
 puts_more n o row start m old mid new before put x =
     put x ∙ ap (λ (b : Bool). b || gives n o row x (start + m)) (before x)
-    ∙ sym (or_regroups (in_words old x) (some_from start m (gives n o row x)) (gives n o row x (start + m)))
+    ∙ or_assoc (in_words old x) (some_from start m (gives n o row x)) (gives n o row x (start + m))
     ∙ ap (λ (b : Bool). in_words old x || b) (sym (some_more start m (gives n o row x)))
     ∙ ap (λ (q : ℕ). in_words old x || some_from start q (gives n o row x)) (sym (add-one m))
 
@@ -436,7 +418,7 @@ empty_some n o row k x (suc m) empty h =
 
 pub puts_empty : (n : ℕ) (o : Outcome) (row : List ℕ) (k : ℕ) (old : List ℕ) → get_or row k 0 ≡ 0 → Puts n o row (64 * k) 64 old old
 puts_empty n o row k old empty x =
-    sym (or_none (in_words old x)) ∙ ap (λ (b : Bool). in_words old x || b) (sym (empty_some n o row k x 64 empty (omega arith)))
+    sym (or-false (in_words old x)) ∙ ap (λ (b : Bool). in_words old x || b) (sym (empty_some n o row k x 64 empty (omega arith)))
 
 -- one word more
 pub puts_word : (n : ℕ) (o : Outcome) (row : List ℕ) (k : ℕ) (old mid new : List ℕ) → Puts n o row 0 (64 * k) old mid → Puts n o row (64 * k) 64 mid new → Puts n o row 0 (64 * (k + 1)) old new
@@ -445,7 +427,7 @@ puts_word n o row k old mid new before word x =
     let next : 64 * k + 64 ≡ 64 * (k + 1) = omega arith in
     let from : 64 * k ≡ 0 + 64 * k = omega arith in
     word x ∙ ap (λ (b : Bool). b || some_from (64 * k) 64 test) (before x)
-    ∙ sym (or_regroups (in_words old x) (some_from 0 (64 * k) test) (some_from (64 * k) 64 test))
+    ∙ or_assoc (in_words old x) (some_from 0 (64 * k) test) (some_from (64 * k) 64 test)
     ∙ ap (λ (q : ℕ). in_words old x || (some_from 0 (64 * k) test || some_from q 64 test)) from
     ∙ ap (λ (b : Bool). in_words old x || b) (sym (some_split 0 (64 * k) 64 test))
     ∙ ap (λ (q : ℕ). in_words old x || some_from 0 q test) next
@@ -480,7 +462,7 @@ given_more n outcomes i d row mid new h before put =
     let here : PutRest n outcomes (get_or outcomes i d ∷ rest) row mid =
     subst (λ (os : List code_outcome.Outcome). PutRest n outcomes os row mid) (drop-cons outcomes i d h) before in
     let there : PutRest n outcomes rest row new =
-    λ x. here x ∙ or_regroups (in_words mid x) (some_from 0 1024 (gives n o row x)) (given n (map outcome_of rest) row x)
+    λ x. here x ∙ sym (or_assoc (in_words mid x) (some_from 0 1024 (gives n o row x)) (given n (map outcome_of rest) row x))
     ∙ ap (λ (b : Bool). b || given n (map outcome_of rest) row x) (sym (put x)) in
     subst (λ (j : ℕ). PutFirst n outcomes j row new) (sym (add-one i)) there
 
@@ -488,29 +470,9 @@ pub given_all : (n : ℕ) (outcomes : List code_outcome.Outcome) (i : ℕ) (row 
 given_all n outcomes i row new end all x =
     let none : drop i outcomes ≡ [] = ap (λ (j : ℕ). drop j outcomes) end ∙ drop-length outcomes in
     let was : PutRest n outcomes [] row new = subst (λ (os : List code_outcome.Outcome). PutRest n outcomes os row new) none all in
-    sym (or_none (in_words new x)) ∙ sym (was x)
+    sym (or-false (in_words new x)) ∙ sym (was x)
 
 -- ## What all outcomes give is the successor
-
-same_value_self : (b : Bool) → same_value b b ≡ true
-same_value_self true = refl
-same_value_self false = refl
-
-same_value_is : (a b : Bool) → same_value a b ≡ true → a ≡ b
-same_value_is true b same = sym same
-same_value_is false true same = absurd (false≢true same)
-same_value_is false false same = refl
-
--- the test for one world passes exactly where it is one
-same_world_self : (n : ℕ) (w : World n) → same_world n w w ≡ true
-same_world_self zero w = refl
-same_world_self (suc n) w = and_from _ _ (same_value_self w.0) (same_world_self n w.1)
-
-same_world_is : (n : ℕ) (v w : World n) → same_world n v w ≡ true → v ≡ w
-same_world_is zero v w same = refl
-same_world_is (suc n) v w same =
-    let parts = and_parts (same_value v.0 w.0) (same_world n v.1 w.1) same in
-    ap₂ (λ (b : Bool) (u : World n). (b, u)) (same_value_is v.0 w.0 parts.0) (same_world_is n v.1 w.1 parts.1)
 
 -- what it is for an outcome to give a number
 gives_parts : (n : ℕ) (o : Outcome) (row : List ℕ) (x j : ℕ) → gives n o row x j ≡ true → (j < 2 ^ n) × (in_words row j ≡ true) × (x ≡ number n (after n o (world_of n j)))
