@@ -12,6 +12,7 @@ use Rattle.bank.specs.Calls.{unless, left_by, refuse_if, place_of, is_held, outc
 use Rattle.map_bank.specs.Canon.{row_of}
 use Rattle.map_bank.specs.Held.{rows_of}
 use Rattle.map_bank.specs.Numbers.{set_of}
+use Rattle.map_bank.specs.RowSets.{worlds_of}
 use Rattle.map_bank.specs.declared.map_bank.MapBank as code
 use Rattle.map_bank.specs.declared.row.Row.{Row}
 
@@ -73,7 +74,7 @@ row_leaves m row = left_by (row_fault m row) m (cond (is_held m.ticket.condition
 -- a row of a bank's conditions, of a set that is not empty
 pub record Fitting (b : code.MapBank) (row : Row) : Type 0 where
   pub same : row.conditions ≡ (ticket_of b.ticket).conditions
-  pub some : none_in row.conditions (set_of row.conditions row.words) ≡ false
+  pub some : none_in row.conditions (worlds_of row) ≡ false
 
 -- one that the bank does not hold
 pub record New (b : code.MapBank) (row : Row) : Type 0 where

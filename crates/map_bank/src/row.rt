@@ -51,6 +51,8 @@ fn denied(literal: Literal, so: bool) -> Literal
 }
 
 impl Row {
+    ghost use Rattle.map_bank.specs.RowSets.{worlds_of, Keeps};
+
     // The set without worlds.
     pub(crate) fn empty(conditions: u16) -> Row
         requires { conditions ≤ 10 }
@@ -75,8 +77,7 @@ impl Row {
     // The worlds of n conditions that meet at least one term.
     pub(crate) fn starting(terms: &[Term], n: u16) -> Row
         requires { (n ≤ 10) × (every (lawful_list n 32) (map listed terms.now) ≡ true) }
-        ensures conditions { result.conditions ≡ n }
-        ensures worlds { (w : World n) → set_of n result.words w ≡ meets_some n w (map listed terms.now) }
+        ensures { Keeps result n (λ w. meets_some n w (map listed terms.now)) }
     {
         let union = union_words(terms);
         let mut start = Row::empty(n);
@@ -91,8 +92,7 @@ impl Row {
     // The worlds of the set that do not meet a list.
     fn outside(&self, list: &[Literal]) -> Row
         requires { every (speaks_within 10) list.now ≡ true }
-        ensures conditions { result.conditions ≡ self.now.conditions }
-        ensures worlds { (w : World self.now.conditions) → set_of self.now.conditions result.words w ≡ (set_of self.now.conditions self.now.words w && not (meets self.now.conditions w list.now)) }
+        ensures { Keeps result self.now.conditions (λ w. worlds_of self.now w && not (meets self.now.conditions w list.now)) }
     {
         Row {
             words: array::from_fn(|k| self.words[k] & !meet_mask(list, k)),
@@ -103,8 +103,7 @@ impl Row {
     // The worlds of the set in which a literal is so, or those in which it is not.
     pub(crate) fn side(&self, literal: Literal, so: bool) -> Row
         requires { speaks_within 10 literal ≡ true }
-        ensures conditions { result.conditions ≡ self.now.conditions }
-        ensures worlds { (w : World self.now.conditions) → set_of self.now.conditions result.words w ≡ side self.now.conditions literal so (set_of self.now.conditions self.now.words) w }
+        ensures { Keeps result self.now.conditions (side self.now.conditions literal so (worlds_of self.now)) }
     {
         self.outside(&[denied(literal, so)])
     }
@@ -112,14 +111,14 @@ impl Row {
     // Whether every world of the set meets a list.
     pub(crate) fn meets(&self, list: &[Literal]) -> bool
         requires { every (speaks_within 10) list.now ≡ true }
-        ensures { result ≡ all_meet self.now.conditions (set_of self.now.conditions self.now.words) list.now }
+        ensures { result ≡ all_meet self.now.conditions (worlds_of self.now) list.now }
     {
         self.outside(list).is_empty()
     }
 
     // Whether the set has no world.
     pub(crate) fn is_empty(&self) -> bool
-        ensures { result ≡ none_in self.now.conditions (set_of self.now.conditions self.now.words) }
+        ensures { result ≡ none_in self.now.conditions (worlds_of self.now) }
     {
         self.words.iter().all(|word| *word == 0)
     }

@@ -5,7 +5,8 @@ ghost use Rattle.worlds.specs.Sets.{successor};
 ghost use Rattle.worlds.specs.Steps.{after};
 ghost use Rattle.worlds.specs.Tickets.{every, lawful_effect, apart, lawful_outcome};
 ghost use Rattle.worlds.specs.Worlds.{World, speaks_within};
-ghost use Rattle.map_bank.specs.Numbers.{number, in_words, set_of};
+ghost use Rattle.map_bank.specs.Numbers.{number, in_words};
+ghost use Rattle.map_bank.specs.RowSets.{worlds_of, Keeps};
 ghost use Rattle.map_bank.specs.Successors.{made, Masked, gives, some_from};
 
 use crate::row::Row;
@@ -85,8 +86,7 @@ impl Row {
     // The worlds that any of some outcomes gives from the worlds of the set.
     pub(crate) fn successor(&self, outcomes: &[Outcome]) -> Row
         requires { every (lawful_outcome self.now.conditions) (map outcome_of outcomes.now) ≡ true }
-        ensures conditions { result.conditions ≡ self.now.conditions }
-        ensures worlds { (v : World self.now.conditions) → set_of self.now.conditions result.words v ≡ successor self.now.conditions (map outcome_of outcomes.now) (set_of self.now.conditions self.now.words) v }
+        ensures { Keeps result self.now.conditions (successor self.now.conditions (map outcome_of outcomes.now) (worlds_of self.now)) }
     {
         let mut next = Row::empty(self.conditions);
         for outcome in outcomes {

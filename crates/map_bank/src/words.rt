@@ -9,7 +9,7 @@ use crate::table::truth_word;
 use worlds::step::Literal;
 
 // Word k of the worlds in which a literal is so.
-pub(crate) fn literal_mask(literal: Literal, k: usize) -> u64
+fn literal_mask(literal: Literal, k: usize) -> u64
     requires { (speaks_within 10 literal ≡ true) × (k < 16) }
     ensures { (b : ℕ) → b < 64 → bit result b ≡ number_holds (64 * k + b) literal }
 {

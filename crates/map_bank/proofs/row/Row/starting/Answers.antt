@@ -29,11 +29,14 @@ loop-world-preserved c =
       }
     ]
 
-pub returns-clause-worlds : goal.returns-clause-worlds
-returns-clause-worlds c =
+pub returns : goal.returns
+returns c =
     let n = c.args.n in
     let union = c.union_words-union.result in
     let row = c.loop-world.start.words in
     let all : TrimmedTo union row ((1 * 2 ^ n) % 2 ^ 64) = subst (TrimmedTo union row) (omega arith) c.loop-world.invariant.trimmed in
-    start_worlds n (map listed c.args.terms.now) union row (c.union_words-union.ensures n c.requires.0)
-    (subst (TrimmedTo union row) (shift_worlds n c.requires.0) all)
+    record {
+      conditions = c.loop-world.invariant.same;
+      worlds = start_worlds n (map listed c.args.terms.now) union row (c.union_words-union.ensures n c.requires.0)
+          (subst (TrimmedTo union row) (shift_worlds n c.requires.0) all);
+    }

@@ -29,12 +29,15 @@ loop-outcome-preserved c =
           (subst (λ (o : Outcome). Puts n (outcome_of o) row 0 1024 mid new) c.outcome-item.is item);
     }
 
-pub returns-clause-worlds : goal.returns-clause-worlds
-returns-clause-worlds c =
+pub returns : goal.returns
+returns c =
     let n = c.args.self.now.conditions in
     let outcomes = c.args.outcomes.now in
     let row = c.args.self.now.words in
     let new = c.loop-outcome.next.words in
     let all : (x : ℕ) → in_words new x ≡ given n (map outcome_of outcomes) row x =
     given_all n outcomes c.loop-outcome.outcome-index row new (omega arith) c.loop-outcome.invariant.puts in
-    λ v. all (number n v) ∙ given_successor n (map outcome_of outcomes) row v c.args.self.now.few
+    record {
+      conditions = c.loop-outcome.invariant.same;
+      worlds = λ v. all (number n v) ∙ given_successor n (map outcome_of outcomes) row v c.args.self.now.few;
+    }
