@@ -18,12 +18,12 @@ pub enum BankFault {
     WrongStep,
 }
 
-impl BankFault {
-    // The number by which users know the fault.
-    pub fn number(self) -> u16
-        ensures { result ≡ number_of self }
-    {
-        match self {
+// The number by which users know a fault.
+impl From<BankFault> for u16 {
+    ghost from_gives = { λ fault number. number ≡ number_of fault };
+
+    fn from(fault: BankFault) -> u16 {
+        match fault {
             BankFault::Conditions => 20,
             BankFault::NoSet => 21,
             BankFault::Full => 22,

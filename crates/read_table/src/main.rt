@@ -24,9 +24,7 @@ fn bytes_of(heap: Global, text: &str, length: usize) -> anyhow::Result<Vec<u8>> 
         };
         bytes.push((high & 15) * 16 + (low & 15))?;
     }
-    for _ in bytes.len()..length {
-        bytes.push(0)?;
-    }
+    bytes.resize(length.max(bytes.len()), 0)?;
     Ok(bytes)
 }
 
@@ -47,11 +45,7 @@ fn answer(rt: &HostRuntime, ticket: &mut Ticket, line: &str) -> anyhow::Result<(
             let steps = ticket.steps().len();
             println!(rt; "{name} conditions {n} terms {terms} steps {steps}")?;
         }
-        Err(refusal) => {
-            let fault = refusal.fault.number();
-            let record = refusal.record;
-            println!(rt; "{name} ticket {fault} {record}")?;
-        }
+        Err(refusal) => println!(rt; "{name} {refusal}")?,
     }
     Ok(())
 }

@@ -1,7 +1,7 @@
 -- The words of a list, one literal at a time.
-use Rattle.std.proofs.Common.{◌≡◌, ℕ, ◌+◌, ◌-◌, ◌<◌, ◌≤◌, List, [], ◌∷◌, ◌++◌, length, get_or, take, drop, pos, codes, sym, ap, ◌∙◌, append_assoc, append-nil, add-one, arith, take_all, take-suc}
+use Rattle.std.proofs.Common.{◌≡◌, ℕ, ◌+◌, ◌<◌, List, [], ◌∷◌, ◌++◌, length, get_or, take, pos, codes, sym, ap, ◌∙◌, append_assoc, append-nil, add-one, take-suc}
 use Rattle.worlds.specs.Worlds.{Literal}
-use Rattle.show.specs.Words.{literal_words, further_words, list_words}
+use Rattle.show.specs.Words.{literal_words, further_words}
 
 further_snoc : (ls : List Literal) (l : Literal) → further_words (ls ++ l ∷ []) ≡ further_words ls ++ (codes ", " ++ literal_words l)
 further_snoc [] l = ap (λ w. codes ", " ++ w) (append-nil (literal_words l))
@@ -12,11 +12,3 @@ further_snoc (k ∷ ls) l =
 -- one literal more
 pub further_more : (ls : List Literal) (i : ℕ) → i < length ls → further_words (take (i + 1) ls) ≡ further_words (take i ls) ++ (codes ", " ++ literal_words (get_or ls i (pos 0)))
 further_more ls i h = ap (λ j. further_words (take j ls)) (add-one i) ∙ ap further_words (take-suc ls i (pos 0) h) ∙ further_snoc (take i ls) (get_or ls i (pos 0))
-
-pub further_all : (ls : List Literal) (i : ℕ) → length ls ≤ i → further_words (take i ls) ≡ further_words ls
-further_all ls i h = ap further_words (take_all i ls h)
-
--- the first literal, then the further ones
-pub list_whole : (ls : List Literal) → 1 ≤ length ls → literal_words (get_or ls 0 (pos 0)) ++ further_words (take (length ls - 1) (drop 1 ls)) ≡ list_words ls
-list_whole [] h = absurd (omega arith)
-list_whole (l ∷ ls) h = ap (λ w. literal_words l ++ w) (further_all ls (length (l ∷ ls) - 1) (omega arith))

@@ -4,24 +4,16 @@
 mod words;
 
 use anyhow::anyhow;
-use records::refusal::Refusal;
 use std::alloc::Global;
 use std::process::ExitCode;
 use std::{env, fs};
 use ticket::ticket::Ticket;
-use words::{InWords, list_in_words};
+use words::{InWords, ListInWords};
 use worlds::step::{Action, Outcome, Sensing, Step};
-
-fn show_refusal(rt: &HostRuntime, refusal: Refusal) -> anyhow::Result<()> {
-    let fault = refusal.fault.number();
-    let record = refusal.record;
-    println!(rt; "ticket {fault} {record}")?;
-    Ok(())
-}
 
 fn show_outcome(rt: &HostRuntime, outcome: &Outcome) -> anyhow::Result<()> {
     for effect in outcome.effects.as_slice() {
-        let conditions = list_in_words(rt.alloc(), effect.conditions.as_slice())?;
+        let conditions = ListInWords(effect.conditions.as_slice());
         let result = InWords(effect.result);
         println!(rt; "    {conditions} gives {result}")?;
     }
@@ -30,7 +22,7 @@ fn show_outcome(rt: &HostRuntime, outcome: &Outcome) -> anyhow::Result<()> {
 
 fn show_action(rt: &HostRuntime, number: usize, action: &Action) -> anyhow::Result<()> {
     let class = action.class;
-    let precondition = list_in_words(rt.alloc(), action.precondition.as_slice())?;
+    let precondition = ListInWords(action.precondition.as_slice());
     println!(rt; "step {number}: action, class {class}")?;
     println!(rt; "  requires: {precondition}")?;
     for (i, outcome) in action.outcomes.as_slice().iter().enumerate() {
@@ -42,7 +34,7 @@ fn show_action(rt: &HostRuntime, number: usize, action: &Action) -> anyhow::Resu
 
 fn show_sensing(rt: &HostRuntime, number: usize, sensing: &Sensing) -> anyhow::Result<()> {
     let class = sensing.class;
-    let precondition = list_in_words(rt.alloc(), sensing.precondition.as_slice())?;
+    let precondition = ListInWords(sensing.precondition.as_slice());
     let sensed = InWords(sensing.sensed);
     println!(rt; "step {number}: sensing, class {class}")?;
     println!(rt; "  requires: {precondition}")?;
@@ -54,11 +46,11 @@ fn show_ticket(rt: &HostRuntime, ticket: &Ticket) -> anyhow::Result<()> {
     let n = ticket.conditions();
     println!(rt; "conditions {n}")?;
     for term in ticket.terms() {
-        let list = list_in_words(rt.alloc(), term.as_slice())?;
+        let list = ListInWords(term.as_slice());
         println!(rt; "start: {list}")?;
     }
     let aim = ticket.aim();
-    let list = list_in_words(rt.alloc(), aim.as_slice())?;
+    let list = ListInWords(aim.as_slice());
     println!(rt; "aim: {list}")?;
     for (number, step) in ticket.steps().iter().enumerate() {
         match step {
@@ -85,7 +77,7 @@ fn run(rt: &HostRuntime) -> anyhow::Result<()> {
     let mut ticket = Ticket::new(rt.alloc())?;
     match ticket.read(file.as_slice()) {
         Ok(()) => show_ticket(rt, &ticket),
-        Err(refusal) => show_refusal(rt, refusal),
+        Err(refusal) => Ok(println!(rt; "{refusal}")?),
     }
 }
 

@@ -1,8 +1,7 @@
 // Literals and lists of literals in words.
-ghost use Rattle.std.specs.Prelude.{◌≡◌, ◌++◌, IfOk, Some, string_bytes, OnOk};
-ghost use Rattle.show.specs.Words.{literal_words, further_words, list_words};
+ghost use Rattle.std.specs.Prelude.{Some};
+ghost use Rattle.show.specs.Words.{literal_words, list_words};
 
-use std::alloc::{AllocError, Global};
 use std::fmt;
 use worlds::step::Literal;
 
@@ -23,26 +22,23 @@ impl fmt::Display for InWords {
     }
 }
 
-// Adds each of some further literals, after a comma.
-fn push_further(heap: Global, text: &mut String, rest: &[Literal]) -> Result<(), AllocError>
-    ensures { OnOk result (string_bytes text.new ≡ string_bytes text.old ++ further_words rest.now) }
-{
-    for literal in rest {
-        let one = InWords(*literal).to_string(heap)?;
-        text.push_str(", ")?;
-        text.push_str(one.as_str())?;
-    }
-    Ok(())
-}
+// A list as text: its literals between commas, or `anything` where there are none.
+#[derive(Clone, Copy)]
+pub struct ListInWords<'a>(pub &'a [Literal]);
 
-// The literals of a list between commas, or `anything` where there are none.
-pub fn list_in_words(heap: Global, list: &[Literal]) -> Result<String, AllocError>
-    ensures { IfOk result (λ s. string_bytes s ≡ list_words list.now) }
-{
-    let [first, rest @ ..] = list else {
-        return String::from_str(heap, "anything");
-    };
-    let mut text = InWords(*first).to_string(heap)?;
-    push_further(heap, &mut text, rest)?;
-    Ok(text)
+impl fmt::Display for ListInWords<'_> {
+    ghost output = { λ w. Some (list_words w.0.now) };
+
+    fn fmt<W: fmt::Write>(&self, f: &mut fmt::Formatter<W>) -> fmt::Result {
+        let [first, rest @ ..] = self.0 else {
+            return write!(f, "anything");
+        };
+        let first = InWords(*first);
+        write!(f, "{first}")?;
+        for literal in rest {
+            let further = InWords(*literal);
+            write!(f, ", {further}")?;
+        }
+        Ok(())
+    }
 }
