@@ -1,19 +1,19 @@
 -- What each call of a map bank answers and leaves, by its rows.
 -- Assumes nothing.
-use Rattle.std.specs.Prelude.{◌≡◌, ℕ, suc, ◌<◌, ◌≤◌, Bool, true, false, cond, not, ◌&&◌, ltb, leb, List, [], ◌∷◌, ◌++◌, length, get_or, take, Some, None, Ok, Err, Option, Result, ◌==◌, nat_eq, nat_le, nat_lt, slice_index_or}
+use Rattle.std.specs.Prelude.{◌≡◌, ℕ, suc, ◌<◌, ◌≤◌, Bool, true, false, cond, not, ◌&&◌, ltb, leb, List, [], ◌∷◌, ◌++◌, length, get_or, take, Some, None, Ok, Err, Option, Result, nat_le, nat_lt, slice_index_or}
 use Rattle.std.proofs.Common.{sym, ◌∙◌, ap, subst, inl, inr, arith}
 use Rattle.std.proofs.Math.Path.{fun_ext}
-use Rattle.std.proofs.lemmas.Bool.{cond-false, cond-true, cases_Bool, lt-ltb, le-ltb, ltb-true, ltb-false, ne_eqb, lt-leb, le-leb}
+use Rattle.std.proofs.lemmas.Bool.{cond-false, cond-true, cases_Bool, lt-ltb, le-ltb, ltb-true, ltb-false, lt-leb, le-leb}
 use Rattle.std.proofs.lemmas.List.{get_or-map, take-map, map_push, length-map}
 use Rattle.worlds.specs.Worlds.{World, Literal}
 use Rattle.worlds.specs.Steps.{Outcome}
 use Rattle.worlds.specs.Sets.{Worlds, none_in, successor, side, same_set}
 use Rattle.worlds.specs.Tickets.{Ticket, starts, meets_some, step_at}
 use Rattle.bank.specs.declared.fault.BankFault.{BankFault}
-use Rattle.bank.specs.declared.fault.BankFault.TheVariants.{Conditions, NoSet, Full, EmptySide, WrongStep}
+use Rattle.bank.specs.declared.fault.BankFault.TheVariants.{NoSet, Full, EmptySide, WrongStep}
 use Rattle.bank.specs.Meaning as bank
 use Rattle.bank.specs.Meaning.{Meaning}
-use Rattle.bank.specs.Calls.{unless, left_by, then_fault, refuse_if, with_some, set_at, place_of, is_held, outcomes_of, sensed_of, put_fault, next_set, next_number, next_made, next_answer, next_leaves, side_set, split_number, split_made, split_answer, split_leaves, shorten_fault, shortened, found_fault, founded}
+use Rattle.bank.specs.Calls.{unless, left_by, then_fault, refuse_if, with_some, set_at, place_of, is_held, outcomes_of, sensed_of, put_fault, next_set, next_number, next_made, next_answer, next_leaves, side_set, split_number, split_made, split_answer, split_leaves, shorten_fault, shortened, founded}
 use Rattle.map_bank.specs.Canon.{row_of}
 use Rattle.map_bank.specs.MapBanks.{meaning_with, map_nature, made_by, side_by, row_kept, place_kept, row_answer, pushed_to, row_leaves}
 use Rattle.map_bank.specs.Numbers.{set_of}
@@ -211,11 +211,3 @@ pub founded_is : (t : Ticket) (m : Meaning) (row : List ℕ) → set_of t.condit
 founded_is t m row is canon =
     ap (λ (s : Worlds t.conditions). record { ticket = t; held = s ∷ []; kept = row ∷ []; capacity = m.capacity }) is
     ∙ ap (λ (r : List ℕ). record { ticket = t; held = starts t ∷ []; kept = r ∷ []; capacity = m.capacity }) (canon ∙ ap (row_of t.conditions) is)
-
-pub found_done : (t : Ticket) (m : Meaning) → t.conditions ≤ 10 → 0 < m.capacity → (Ok (tt {0}) ≡ unless (found_fault map_nature t m) (tt {0})) × (founded map_nature t m ≡ left_by (found_fault map_nature t m) m (founded map_nature t m))
-found_done t m few some =
-    let within : ltb 10 t.conditions ≡ false = le-ltb 10 t.conditions few in
-    let room : nat_eq m.capacity 0 ≡ false = ne_eqb m.capacity 0 (λ e. omega arith) in
-    let fault : Bool → Bool → Option BankFault = λ a b. then_fault (refuse_if a Conditions) (refuse_if b Full) in
-    let none : None ≡ found_fault map_nature t m = ap (fault false) (sym room) ∙ ap (λ (a : Bool). fault a (m.capacity == 0)) (sym within) in
-    (ap (λ (f : Option BankFault). unless f (tt {0})) none, ap (λ (f : Option BankFault). left_by f m (founded map_nature t m)) none)
