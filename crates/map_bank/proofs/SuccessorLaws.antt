@@ -452,8 +452,9 @@ PutRest n outcomes rest row new =
 abbrev pub PutFirst : (n : ℕ) → List code_outcome.Outcome → ℕ → List ℕ → List ℕ → Type 0
 PutFirst n outcomes i row new = PutRest n outcomes (drop i outcomes) row new
 
-pub outcome_at : (n : ℕ) (outcomes : List code_outcome.Outcome) (i : ℕ) (d : code_outcome.Outcome) → i < length outcomes → every (lawful_outcome n) (map outcome_of outcomes) ≡ true → lawful_outcome n (outcome_of (get_or outcomes i d)) ≡ true
-outcome_at n outcomes i d h all = every_at (lawful_outcome n) outcome_of outcomes i d h all
+pub outcome_at : (n : ℕ) (outcomes : List code_outcome.Outcome) (i : ℕ) (o : code_outcome.Outcome) → o ≡ get_or outcomes i o → i < length outcomes → every (lawful_outcome n) (map outcome_of outcomes) ≡ true → lawful_outcome n (outcome_of o) ≡ true
+outcome_at n outcomes i o is h all =
+    subst (λ (p : code_outcome.Outcome). lawful_outcome n (outcome_of p) ≡ true) (sym is) (every_at (lawful_outcome n) outcome_of outcomes i o h all)
 
 pub given_more : (n : ℕ) (outcomes : List code_outcome.Outcome) (i : ℕ) (d : code_outcome.Outcome) (row mid new : List ℕ) → i < length outcomes → PutFirst n outcomes i row mid → Puts n (outcome_of (get_or outcomes i d)) row 0 1024 mid new → PutFirst n outcomes (i + 1) row new
 given_more n outcomes i d row mid new h before put =

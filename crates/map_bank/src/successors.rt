@@ -70,11 +70,12 @@ impl Row {
     }
 
     // Puts in the worlds that an outcome gives from the worlds of another set.
-    fn put_outcome(&mut self, from: &Row, effects: &[Effect])
-        requires { (self.old.conditions ≡ from.now.conditions) × (lawful_outcome from.now.conditions (map effect_of effects.now) ≡ true) }
+    fn put_outcome(&mut self, from: &Row, outcome: &Outcome)
+        requires { (self.old.conditions ≡ from.now.conditions) × (lawful_outcome from.now.conditions (outcome_of outcome.now) ≡ true) }
         ensures conditions { self.new.conditions ≡ self.old.conditions }
-        ensures worlds { (x : ℕ) → in_words self.new.words x ≡ (in_words self.old.words x || some_from 0 1024 (gives from.now.conditions (map effect_of effects.now) from.now.words x)) }
+        ensures worlds { (x : ℕ) → in_words self.new.words x ≡ (in_words self.old.words x || some_from 0 1024 (gives from.now.conditions (outcome_of outcome.now) from.now.words x)) }
     {
+        let effects = outcome.effects.as_slice();
         for (k, word) in from.words.iter().enumerate() {
             // Small sets, and sets of few conditions, leave most words empty.
             if *word != 0 {
@@ -90,7 +91,7 @@ impl Row {
     {
         let mut next = Row::empty(self.conditions);
         for outcome in outcomes {
-            next.put_outcome(self, outcome.effects.as_slice());
+            next.put_outcome(self, outcome);
         }
         next
     }

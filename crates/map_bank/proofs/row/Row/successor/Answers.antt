@@ -1,19 +1,13 @@
 -- Each turn puts what one more outcome gives.
-use Rattle.std.proofs.Common.{◌≡◌, ℕ, true, List, map, sym, ◌∙◌, subst, arith}
-use Rattle.worlds.specs.declared.step.Effect.{Effect}
+use Rattle.std.proofs.Common.{◌≡◌, ℕ, map, ◌∙◌, subst, arith, rules}
 use Rattle.worlds.specs.declared.step.Outcome.{Outcome}
-use Rattle.worlds.specs.Meaning.{effect_of, outcome_of}
-use Rattle.worlds.specs.Tickets.{lawful_outcome}
+use Rattle.worlds.specs.Meaning.{outcome_of}
 use Rattle.map_bank.specs.Numbers.{number, in_words}
 use Rattle.map_bank.proofs.SuccessorLaws.{Puts, given, outcome_at, given_more, given_all, given_successor}
 use Rattle.map_bank.proofs.row.Row.successor.Goals as goal
 
 pub put_outcome-requires : goal.put_outcome-requires
-put_outcome-requires c =
-    let n = c.args.self.now.conditions in
-    let fine = outcome_at n c.args.outcomes.now c.loop-outcome.outcome-index c.outcome-item.result c.loop-outcome-test.true c.requires in
-    let item = subst (λ (o : Outcome). lawful_outcome n (outcome_of o) ≡ true) (sym c.outcome-item.is) fine in
-    (c.loop-outcome.invariant.same, subst (λ (es : List Effect). lawful_outcome n (map effect_of es) ≡ true) (sym c.as_slice.ensures) item)
+put_outcome-requires c = (c.loop-outcome.invariant.same, search (rules, outcome_at))
 
 pub loop-outcome-preserved : goal.loop-outcome-preserved
 loop-outcome-preserved c =
@@ -21,12 +15,10 @@ loop-outcome-preserved c =
     let row = c.args.self.now.words in
     let mid = c.loop-outcome.next.words in
     let new = c.put_outcome.new.self.words in
-    let item : Puts n (outcome_of c.outcome-item.result) row 0 1024 mid new =
-    subst (λ (es : List Effect). Puts n (map effect_of es) row 0 1024 mid new) c.as_slice.ensures c.put_outcome.ensures.worlds in
     record {
       same = c.put_outcome.ensures.conditions ∙ c.loop-outcome.invariant.same;
       puts = given_more n c.args.outcomes.now c.loop-outcome.outcome-index c.outcome-item.result row mid new c.loop-outcome-test.true c.loop-outcome.invariant.puts
-          (subst (λ (o : Outcome). Puts n (outcome_of o) row 0 1024 mid new) c.outcome-item.is item);
+          (subst (λ (o : Outcome). Puts n (outcome_of o) row 0 1024 mid new) c.outcome-item.is c.put_outcome.ensures.worlds);
     }
 
 pub returns : goal.returns

@@ -35,12 +35,6 @@ returns-then-is_empty c =
     (ap (λ (k : ℕ). none_in k (set_of k part.words)) (sym same) ∙ sym c.is_empty.ensures ∙ c.if-is_empty.true) in
     record { answer = p.0; after = p.1 }
 
-pub put-requires : goal.put-requires
-put-requires c = record {
-  same = c.side-part.ensures.conditions ∙ c.in_ok-row.ensures.there.0;
-  some = sym c.is_empty.ensures ∙ c.if-is_empty.false;
-}
-
 pub returns : goal.returns
 returns c =
     let self = c.args.self.now in
