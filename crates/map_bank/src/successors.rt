@@ -46,7 +46,8 @@ fn world_after(world: usize, effects: &[Effect], masks: &[u64; 4]) -> usize
 {
     let mut next = world;
     for (effect, mask) in effects.iter().zip(masks) {
-        if mask >> (world % 64) & 1 == 1 {
+        let met = mask >> (world % 64) & 1 == 1;
+        if met {
             next = changed(next, effect.result);
         }
     }

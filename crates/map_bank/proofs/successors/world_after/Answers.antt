@@ -29,11 +29,11 @@ loop-effect-preserved c =
       can_next = search rules;
       is_finite = search rules;
       left = left_skip c.args.world c.loop-effect.next c.args.effects.now (iter_rest (zip_first it)) (iter_rest (zip_first rest)) c.in-Some.effect.now (iter_rest (zip_second it)) (iter_rest (zip_second rest)) c.in-Some.mask.now
-          c.loop-effect.invariant.left c.in-Some.ensures.steps.0 c.in-Some.ensures.steps.1 (ne_eqb _ 1 c.if-mask-world-eq1.false);
+          c.loop-effect.invariant.left c.in-Some.ensures.steps.0 c.in-Some.ensures.steps.1 (ne_eqb _ 1 c.if-met.false);
     }
 
-pub loop-effect-preserved-then-mask-world-eq1 : goal.loop-effect-preserved-then-mask-world-eq1
-loop-effect-preserved-then-mask-world-eq1 c =
+pub loop-effect-preserved-then-met : goal.loop-effect-preserved-then-met
+loop-effect-preserved-then-met c =
     let it = c.loop-effect.effect-iterator in
     let rest = c.next.new.self in
     let fits : SFits w16 c.in-Some.effect.now.result = search rules in
@@ -41,7 +41,7 @@ loop-effect-preserved-then-mask-world-eq1 c =
       can_next = search rules;
       is_finite = search rules;
       left = left_take c.args.world c.loop-effect.next c.changed-next.result c.args.effects.now (iter_rest (zip_first it)) (iter_rest (zip_first rest)) c.in-Some.effect.now (iter_rest (zip_second it)) (iter_rest (zip_second rest)) c.in-Some.mask.now
-          c.loop-effect.invariant.left c.in-Some.ensures.steps.0 c.in-Some.ensures.steps.1 (eq-eqb _ 1 c.if-mask-world-eq1.true) (simp to_z-of_z at c.changed-next.ensures);
+          c.loop-effect.invariant.left c.in-Some.ensures.steps.0 c.in-Some.ensures.steps.1 (eq-eqb _ 1 c.if-met.true) (simp to_z-of_z at c.changed-next.ensures);
     }
 
 pub returns : goal.returns
