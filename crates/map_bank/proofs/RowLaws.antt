@@ -12,9 +12,9 @@ use Rattle.std.proofs.Math.Path.{fun_ext}
 use Rattle.std.proofs.lemmas.Nat.{one_shl}
 use Rattle.std.proofs.lemmas.Bool.{both_ways, eqb-false, lt-ltb, cases_eq, cases_lt, cases_Bool, and_parts, and_left}
 use Rattle.std.proofs.lemmas.Bool.Decides.{nat_tests}
-use Rattle.worlds.specs.Worlds.{World, Literal, meets, some_world, speaks_within, consistent}
+use Rattle.worlds.specs.Worlds.{World, holds, Literal, meets, some_world, speaks_within, consistent}
 use Rattle.worlds.specs.Tickets.{meets_some, every, lawful_list}
-use Rattle.worlds.specs.Sets.{all_meet, none_in}
+use Rattle.worlds.specs.Sets.{all_meet, none_in, same_value, side}
 use Rattle.worlds.proofs.Compatible.{cannot_pass, some_world_from, the_world}
 use Rattle.map_bank.specs.Bits.{bit}
 use Rattle.map_bank.specs.Numbers.{number, world_of, in_words, set_of}
@@ -22,7 +22,7 @@ use Rattle.map_bank.specs.Rows.{Tidy}
 use Rattle.map_bank.proofs.BitLaws.{bit_of_and, bit_of_or, bit_lowest, bit_above, bit_zero, bit_complement}
 use Rattle.map_bank.proofs.NumberLaws.{number_lt, number_below, number_of_world}
 use Rattle.map_bank.proofs.TicketLaws.{every_more, all_speak_wider}
-use Rattle.std.proofs.Math.Bool.{or-false, or_assoc}
+use Rattle.std.proofs.Math.Bool.{and-true, or-false, or_assoc}
 use Rattle.map_bank.proofs.WordLaws.{every_from}
 
 -- ## A row made word by word
@@ -92,6 +92,11 @@ outside_tidy n row made list few tidy first k beyond h =
 pub meets_outside : (n m : ℕ) (row made : List ℕ) (list : List Literal) (told : Bool) → m ≡ n → ((w : World n) → set_of n made w ≡ (set_of n row w && not (meets n w list))) → told ≡ none_in m (set_of m made) → told ≡ all_meet n (set_of n row) list
 meets_outside n m row made list told same outside none =
     subst (λ (k : ℕ). told ≡ none_in k (set_of k made)) same none ∙ ap (none_in n) (fun_ext outside)
+
+-- the side of a literal has the worlds that do not meet what is denied there
+pub side_outside : (n : ℕ) (row made : List ℕ) (l denied : Literal) (so : Bool) → ((m : ℕ) (w : World m) → not (holds m w denied) ≡ same_value so (holds m w l)) → ((w : World n) → set_of n made w ≡ (set_of n row w && not (meets n w (denied ∷ [])))) → (w : World n) → set_of n made w ≡ side n l so (set_of n row) w
+side_outside n row made l denied so turned outside w =
+    outside w ∙ ap (λ (x : Bool). set_of n row w && not x) (and-true (holds n w denied)) ∙ ap (λ (x : Bool). set_of n row w && x) (turned n w)
 
 -- ## A row asked word by word
 

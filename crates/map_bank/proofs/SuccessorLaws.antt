@@ -1,6 +1,6 @@
 -- The worlds that outcomes give from a set, by their numbers.
 -- Assumes nothing.
-use Rattle.std.proofs.Common.{◌≡◌, ℕ, zero, suc, ◌+◌, ◌-◌, ◌*◌, ◌/◌, ◌%◌, ◌^◌, ◌<◌, ◌≤◌, Bool, true, false, cond, not, ◌&&◌, ◌||◌, eqb, ltb, leb, List, [], ◌∷◌, map, length, get_or, drop, set, pos, negsuc, nat_abs, sym, refl, ap, ◌∙◌, subst, ap₂, inl, inr, lt_of_lt_of_le, lt_of_le_of_lt, add-zero, add_assoc, add-suc, add-one, arith, drop-cons, get_or-set_other, get_or-set_same, pow_mono}
+use Rattle.std.proofs.Common.{◌≡◌, ℕ, zero, suc, ◌+◌, ◌-◌, ◌*◌, ◌/◌, ◌%◌, ◌^◌, ◌<◌, ◌≤◌, Bool, true, false, cond, not, ◌&&◌, ◌||◌, eqb, ltb, leb, List, [], ◌∷◌, map, length, get_or, drop, pos, negsuc, nat_abs, sym, refl, ap, ◌∙◌, subst, ap₂, inl, inr, lt_of_lt_of_le, lt_of_le_of_lt, add-zero, add_assoc, add-suc, add-one, arith, pow_mono}
 use lib.Bits.{bit_and, bit_or, and_le_l, or_lt}
 use lib.Dec.{eqb-suc-suc}
 use lib.ListN.{length-map}
@@ -184,32 +184,11 @@ result_within n e fine = (and_parts (lawful_list n 4 e.conditions) (speaks_withi
 pub effect_at : (n : ℕ) (effects : List code_effect.Effect) (i : ℕ) (d : code_effect.Effect) → i < length effects → every (lawful_effect n) (map effect_of effects) ≡ true → lawful_effect n (effect_of (get_or effects i d)) ≡ true
 effect_at n effects i d h all = every_at (lawful_effect n) effect_of effects i d h all
 
--- what stands at a place that a list has does not depend on the default
-get_d_any : {X : Type 0} (xs : List X) (i : ℕ) (d e : X) → i < length xs → get_or xs i d ≡ get_or xs i e
-get_d_any [] i d e h = absurd (omega arith)
-get_d_any (x ∷ xs) zero d e h = refl
-get_d_any (x ∷ xs) (suc i) d e h = get_d_any xs i d e (omega arith)
-
 -- the masks of the first effects are right
 abbrev pub MaskedFirst : ℕ → ℕ → List code_effect.Effect → List ℕ → Type 0
 MaskedFirst many k effects masks =
     (i : ℕ) (d : code_effect.Effect) → i < many → i < length effects → (n : ℕ) (w : World n) (b : ℕ) → b < 64 → number n w ≡ 64 * k + b →
     bit (get_or masks i 0) b ≡ meets n w (listed (get_or effects i d).conditions)
-
-pub masked_more : (k i v : ℕ) (effects : List code_effect.Effect) (masks : List ℕ) (e : code_effect.Effect) → i < length masks → MaskedFirst i k effects masks → ((n : ℕ) (w : World n) (b : ℕ) → b < 64 → number n w ≡ 64 * k + b → bit v b ≡ meets n w (listed (get_or effects i e).conditions)) → MaskedFirst (i + 1) k effects (set masks i v)
-masked_more k i v effects masks e room first right j d hj hl n w b hb is =
-    elim (cases_eq j i) [
-      | inl same ↦
-          let here : get_or (set masks i v) j 0 ≡ v =
-          subst (λ (q : ℕ). get_or (set masks i v) q 0 ≡ v) (sym same) (get_or-set_same masks i v 0 room) in
-          let met : bit v b ≡ meets n w (listed (get_or effects j e).conditions) =
-          subst (λ (q : ℕ). bit v b ≡ meets n w (listed (get_or effects q e).conditions)) (sym same) (right n w b hb is) in
-          ap (λ (x : ℕ). bit x b) here ∙ met
-          ∙ ap (λ (x : code_effect.Effect). meets n w (listed x.conditions)) (get_d_any effects j e d hl)
-      | inr other ↦
-          ap (λ (x : ℕ). bit x b) (get_or-set_other masks i j v 0 other)
-          ∙ first j d (omega arith) hl n w b hb is
-    ]
 
 -- ## The effects that the code takes
 
@@ -248,23 +227,10 @@ pub record Left (world : ℕ) (effects rest : List code_effect.Effect) (masks : 
   pub masked : Masked (world / 64) rest masks
   pub taken : TakenRest world effects rest next
 
-pub left_all : (world : ℕ) (effects all : List code_effect.Effect) (masks bits : List ℕ) → all ≡ effects → bits ≡ masks → length effects ≤ length masks → Masked (world / 64) effects masks → Left world effects all bits world
-left_all world effects all masks bits is at room right =
-    subst (λ (ms : List ℕ). Left world effects all ms world) (sym at) (subst (λ (es : List code_effect.Effect). Left world effects es masks world) (sym is) (record {
-      lawful = λ n fine. fine;
-      room = room;
-      masked = right;
-      taken = λ n w small fine clear is. (w, sym is, clear, refl);
-    }))
-
 -- the first of the effects speaks of lawful conditions
 left_within : (world next : ℕ) (effects rest : List code_effect.Effect) (e : code_effect.Effect) (masks : List ℕ) → Left world effects (e ∷ rest) masks next → (n : ℕ) → every (lawful_effect n) (map effect_of effects) ≡ true → speaks_within n e.result ≡ true
 left_within world next effects rest e masks left n fine =
     result_within n (effect_of e) (and_parts (lawful_effect n (effect_of e)) (every (lawful_effect n) (map effect_of rest)) (left.lawful n fine)).0
-
-pub left_result : (world next : ℕ) (effects all rest : List code_effect.Effect) (e : code_effect.Effect) (masks : List ℕ) → every (lawful_effect 10) (map effect_of effects) ≡ true → Left world effects all masks next → all ≡ e ∷ rest → speaks_within 10 e.result ≡ true
-left_result world next effects all rest e masks fine left is =
-    left_within world next effects rest e masks (subst (λ (es : List code_effect.Effect). Left world effects es masks next) is left) 10 fine
 
 -- one effect fewer
 left_fewer : (world next new : ℕ) (effects rest : List code_effect.Effect) (e : code_effect.Effect) (masks : List ℕ) (m : ℕ) → Left world effects (e ∷ rest) (m ∷ masks) next → TakenRest world effects rest new → Left world effects rest masks new
@@ -455,17 +421,6 @@ PutFirst n outcomes i row new = PutRest n outcomes (drop i outcomes) row new
 pub outcome_at : (n : ℕ) (outcomes : List code_outcome.Outcome) (i : ℕ) (o : code_outcome.Outcome) → o ≡ get_or outcomes i o → i < length outcomes → every (lawful_outcome n) (map outcome_of outcomes) ≡ true → lawful_outcome n (outcome_of o) ≡ true
 outcome_at n outcomes i o is h all =
     subst (λ (p : code_outcome.Outcome). lawful_outcome n (outcome_of p) ≡ true) (sym is) (every_at (lawful_outcome n) outcome_of outcomes i o h all)
-
-pub given_more : (n : ℕ) (outcomes : List code_outcome.Outcome) (i : ℕ) (d : code_outcome.Outcome) (row mid new : List ℕ) → i < length outcomes → PutFirst n outcomes i row mid → Puts n (outcome_of (get_or outcomes i d)) row 0 1024 mid new → PutFirst n outcomes (i + 1) row new
-given_more n outcomes i d row mid new h before put =
-    let o : Outcome = outcome_of (get_or outcomes i d) in
-    let rest : List code_outcome.Outcome = drop (suc i) outcomes in
-    let here : PutRest n outcomes (get_or outcomes i d ∷ rest) row mid =
-    subst (λ (os : List code_outcome.Outcome). PutRest n outcomes os row mid) (drop-cons outcomes i d h) before in
-    let there : PutRest n outcomes rest row new =
-    λ x. here x ∙ sym (or_assoc (in_words mid x) (some_from 0 1024 (gives n o row x)) (given n (map outcome_of rest) row x))
-    ∙ ap (λ (b : Bool). b || given n (map outcome_of rest) row x) (sym (put x)) in
-    subst (λ (j : ℕ). PutFirst n outcomes j row new) (sym (add-one i)) there
 
 pub given_all : (n : ℕ) (outcomes : List code_outcome.Outcome) (i : ℕ) (row new : List ℕ) → i ≡ length outcomes → PutFirst n outcomes i row new → (x : ℕ) → in_words new x ≡ given n (map outcome_of outcomes) row x
 given_all n outcomes i row new end all x =

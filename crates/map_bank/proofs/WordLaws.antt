@@ -90,9 +90,6 @@ MasksFirst mask k list i = (every (speaks_within 10) (drop i list) ≡ true) × 
 pub first_none : (k : ℕ) (list : List Literal) → every (speaks_within 10) list ≡ true → MasksFirst (2 ^ 64 - 1) k list 0
 first_none k list within = (within, masks_none k list)
 
-pub first_within : (mask k : ℕ) (list : List Literal) (i : ℕ) → i < length list → MasksFirst mask k list i → speaks_within 10 (get_or list i (pos 0)) ≡ true
-first_within mask k list i h first = (every_from (speaks_within 10) list i (pos 0) h first.0).0
-
 pub first_more : (mask more k : ℕ) (list : List Literal) (i : ℕ) → i < length list → MasksFirst mask k list i → ((b : ℕ) → b < 64 → bit more b ≡ number_holds (64 * k + b) (get_or list i (pos 0))) → MasksFirst (bit_and mask more) k list (i + 1)
 first_more mask more k list i h first right =
     let within = every_from (speaks_within 10) list i (pos 0) h first.0 in

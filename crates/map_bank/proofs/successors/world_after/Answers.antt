@@ -4,22 +4,8 @@ use Rattle.std.specs.Iterator.Adapters.{zip_first, zip_second}
 use Rattle.std.specs.Slice.Iter.{iter_rest}
 use Rattle.std.proofs.lemmas.Int.{to_z-of_z}
 use Rattle.std.proofs.lemmas.Bool.{eq-eqb, ne_eqb}
-use Rattle.map_bank.proofs.SuccessorLaws.{left_all, left_result, left_skip, left_take, left_none}
+use Rattle.map_bank.proofs.SuccessorLaws.{left_skip, left_take, left_none}
 use Rattle.map_bank.proofs.successors.world_after.Goals as goal
-
-pub loop-effect-init : goal.loop-effect-init
-loop-effect-init c = record {
-  can_next = search rules;
-  is_finite = search rules;
-  left = left_all c.args.world c.args.effects.now _ c.args.masks.now _ (search rules) (search rules) (omega arith) c.requires.2;
-}
-
-pub changed-next-requires : goal.changed-next-requires
-changed-next-requires c =
-    let fits : SFits w16 c.in-Some.effect.now.result = search rules in
-    simp to_z-of_z
-    (left_result c.args.world c.loop-effect.next c.args.effects.now (iter_rest (zip_first c.loop-effect.effect-iterator)) (iter_rest (zip_first c.next.new.self)) c.in-Some.effect.now _
-    c.requires.0 c.loop-effect.invariant.left c.in-Some.ensures.steps.0)
 
 pub loop-effect-preserved : goal.loop-effect-preserved
 loop-effect-preserved c =

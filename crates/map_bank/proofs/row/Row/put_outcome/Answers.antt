@@ -1,8 +1,7 @@
 -- Each turn puts what the outcome gives from one more word of the row.
-use Rattle.std.proofs.Common.{◌≡◌, ℕ, true, List, arith, ◌+◌, ◌*◌, map, sym, ◌∙◌, ap, subst, refl}
+use Rattle.std.proofs.Common.{ℕ, List, ◌+◌, ◌*◌, map, sym, ◌∙◌, ap, subst, refl}
 use Rattle.worlds.specs.declared.step.Effect.{Effect}
 use Rattle.worlds.specs.Meaning.{effect_of, outcome_of}
-use Rattle.worlds.specs.Tickets.{lawful_outcome}
 use Rattle.map_bank.specs.declared.row.Row.{Row}
 use Rattle.map_bank.proofs.SuccessorLaws.{Puts, puts_none, puts_empty, puts_word}
 use Rattle.map_bank.proofs.row.Row.put_outcome.Goals as goal
@@ -13,13 +12,6 @@ loop-k-init c = record {
   same = refl;
   puts = puts_none c.args.from.now.conditions (outcome_of c.args.outcome.now) c.args.from.now.words 0 c.args.self.now.words;
 }
-
-pub put_word-requires : goal.put_word-requires
-put_word-requires c = (
-  c.loop-k.invariant.same ∙ c.requires.0,
-  omega arith,
-  subst (λ (es : List Effect). lawful_outcome c.args.from.now.conditions (map effect_of es) ≡ true) (sym c.as_slice-effects.ensures) c.requires.1,
-)
 
 pub loop-k-preserved : goal.loop-k-preserved
 loop-k-preserved c =
