@@ -3,13 +3,12 @@
 use Rattle.std.proofs.Common.{◌≡◌, ℕ, zero, suc, ◌<◌, ◌≤◌, List, [], ◌∷◌, map, length, get_or, Option, Some, None, sym, refl, ap, ◌∙◌, subst, arith, Bor}
 use lib.ListN.{length-map}
 use Rattle.std.proofs.lemmas.List.{get_or-map}
-use Rattle.std.specs.Prelude.{option_copied}
+use Rattle.std.specs.Prelude.{option_copied, option_map}
 use Rattle.std.specs.Slice.{IsItemAt}
 use Rattle.worlds.specs.Steps.{Step}
 use Rattle.worlds.specs.Tickets.{step_at}
 use Rattle.worlds.specs.Meaning.{step_of}
 use Rattle.worlds.specs.declared.step.Step as code_step
-use Rattle.map_bank.specs.StepParts.{step_in}
 
 step_there : (steps : List Step) (k : ℕ) (d : Step) → k < length steps → step_at steps k ≡ Some (get_or steps k d)
 step_there [] k d h = absurd (omega arith)
@@ -33,6 +32,6 @@ step_none steps all k is h =
     sym (step_past (map step_of steps) k (subst (λ (m : ℕ). m ≤ k) (sym (length-map steps step_of)) h)) ∙ ap (λ (ss : List Step). step_at ss k) is
 
 -- the step that `get` lends, if there is one
-pub step_got : (steps : List code_step.Step) (all : List Step) (k : ℕ) (r : Option (Bor code_step.Step)) → map step_of steps ≡ all → IsItemAt steps k r → step_in (option_copied r) ≡ step_at all k
+pub step_got : (steps : List code_step.Step) (all : List Step) (k : ℕ) (r : Option (Bor code_step.Step)) → map step_of steps ≡ all → IsItemAt steps k r → option_map step_of (option_copied r) ≡ step_at all k
 step_got steps all k None is got = step_none steps all k is got.3
 step_got steps all k (Some x) is got = step_read steps all k x.now is got.3.0 got.1

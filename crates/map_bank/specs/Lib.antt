@@ -7,5 +7,4 @@ pub mod Numbers
 pub mod RowSets
 pub mod Rows
 pub mod Successors
-pub mod StepParts
 pub mod TruthTable

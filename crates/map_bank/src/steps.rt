@@ -1,10 +1,10 @@
 // What a bank asks of a ticket's steps and of lists of literals.
-ghost use Rattle.std.specs.Prelude.{◌≡◌};
+ghost use Rattle.std.specs.Prelude.{◌≡◌, map, option_map};
+ghost use Rattle.worlds.specs.Meaning.{listed, outcome_of, step_of};
 ghost use Rattle.worlds.specs.Worlds.{speaks_within};
 ghost use Rattle.worlds.specs.Tickets.{every, step_at};
 ghost use Rattle.ticket.specs.Tickets.{ticket_of};
 ghost use Rattle.bank.specs.Calls.{outcomes_of, sensed_of};
-ghost use Rattle.map_bank.specs.StepParts.{step_in, outcomes_in};
 
 use ticket::ticket::Ticket;
 use worlds::few::Few;
@@ -20,14 +20,14 @@ pub(crate) fn speak_within(list: &[Literal], n: u16) -> bool
 
 // The step of a number.
 fn step_at(ticket: &Ticket, step: usize) -> Option<Step>
-    ensures { step_in result ≡ step_at (ticket_of ticket.now).steps step }
+    ensures { option_map step_of result ≡ step_at (ticket_of ticket.now).steps step }
 {
     ticket.steps().get(step).copied()
 }
 
 // The outcomes of the action of a number.
 pub(crate) fn outcomes_at(ticket: &Ticket, step: usize) -> Option<Few<Outcome, 4>>
-    ensures { outcomes_in result ≡ outcomes_of (step_at (ticket_of ticket.now).steps step) }
+    ensures { option_map (λ os. map outcome_of (listed os)) result ≡ outcomes_of (step_at (ticket_of ticket.now).steps step) }
 {
     match step_at(ticket, step)? {
         Step::Action(action) => Some(action.outcomes),
