@@ -1,6 +1,6 @@
 -- Rows of sixteen words: what a loop over the words shows of the set that a row keeps.
 -- Assumes nothing.
-use Rattle.std.proofs.Common.{◌≡◌, ℕ, zero, suc, ◌+◌, ◌-◌, ◌*◌, ◌/◌, ◌%◌, ◌^◌, ◌<◌, ◌≤◌, Bool, true, false, not, ◌&&◌, ◌||◌, eqb, ltb, leb, List, [], ◌∷◌, length, get_or, drop, sym, ap, ◌∙◌, subst, ap₂, inl, inr, pow-suc, add-one, arith, drop-cons, pow_mono}
+use Rattle.std.proofs.Common.{◌≡◌, ℕ, zero, suc, ◌+◌, ◌-◌, ◌*◌, ◌/◌, ◌%◌, ◌^◌, ◌<◌, ◌≤◌, Bool, true, false, not, ◌&&◌, ◌||◌, eqb, ltb, leb, List, [], ◌∷◌, length, get_or, drop, sym, ap, ◌∙◌, subst, inl, inr, pow-suc, add-one, arith, drop-cons, pow_mono}
 use lib.Bits.{bit_and, bit_or}
 use lib.Seq.{drop-length}
 use Rattle.std.specs.Fn.{Called}
@@ -20,6 +20,7 @@ use Rattle.map_bank.specs.Bits.{bit}
 use Rattle.map_bank.specs.Numbers.{number, world_of, in_words, set_of}
 use Rattle.map_bank.specs.Rows.{Tidy}
 use Rattle.map_bank.proofs.BitLaws.{bit_of_and, bit_of_or, bit_lowest, bit_above, bit_zero, bit_complement}
+use Rattle.map_bank.proofs.CanonLaws.{in_row}
 use Rattle.map_bank.proofs.NumberLaws.{number_lt, number_below, number_of_world}
 use Rattle.map_bank.proofs.TicketLaws.{every_more, all_speak_wider}
 use Rattle.std.proofs.Math.Bool.{and-true, or-false, or_assoc}
@@ -111,13 +112,6 @@ nonzero_bit (suc k) x small some =
           (suc above.0, omega arith, bit_above x above.0 ∙ above.2)
     ]
 
--- a bit of a word, as the row has it under the number of its world
-in_word : (row : List ℕ) (j b : ℕ) → b < 64 → in_words row (64 * j + b) ≡ bit (get_or row j 0) b
-in_word row j b hb =
-    let word : (64 * j + b) / 64 ≡ j = omega arith in
-    let place : (64 * j + b) % 64 ≡ b = omega arith in
-    ap₂ (λ (x y : ℕ). bit (get_or row x 0) y) word place
-
 -- a tidy row's bit of a number is that of a world
 tidy_world : (n : ℕ) (row : List ℕ) (k : ℕ) → Tidy n row → k < 1024 → in_words row k ≡ true → (w : World n) × (number n w ≡ k)
 tidy_world n row k tidy h has =
@@ -151,7 +145,7 @@ pub row_some : (row : List ℕ) (j : ℕ) → j < 16 → get_or row j 0 < 2 ^ 64
 row_some row j hj fits some n tidy =
     let found = nonzero_bit 64 (get_or row j 0) fits some in
     let b = found.0 in
-    let has : in_words row (64 * j + b) ≡ true = in_word row j b found.1 ∙ found.2 in
+    let has : in_words row (64 * j + b) ≡ true = in_row row j b found.1 ∙ found.2 in
     let world = tidy_world n row (64 * j + b) tidy (let low : b < 64 = found.1 in omega arith) has in
     some_from n (set_of n row) world.0 (ap (in_words row) world.1 ∙ has)
 
