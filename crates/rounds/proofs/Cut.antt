@@ -1,17 +1,18 @@
 -- The cut: each procedure from an unsettled node passes some unsettled node whose tentative total is at most its own.
 -- Assumes nothing.
-use Rattle.std.proofs.Common.{◌≡◌, ℕ, ◌<◌, Bool, true, cond, List, length, Some, None, Option, sym, ap, ◌∙◌, subst, inl, inr}
+use Rattle.std.proofs.Common.{◌≡◌, ℕ, ◌<◌, Bool, true, cond, List, length, Some, None, Option, option_and_then, sym, ap, ◌∙◌, subst, inl, inr}
 use Rattle.std.proofs.lemmas.Bool.{cases_Bool, cond-true, cond-false}
+use Rattle.std.specs.Option.{option_map}
 use Rattle.worlds.specs.Steps.{Step}
 use Rattle.worlds.specs.Tickets.{step_at}
 use Rattle.tally.specs.Laws.{Laws}
 use Rattle.theory.specs.Procedures.{larger}
 use Rattle.theory.proofs.Order.{larger_left, larger_right, larger_mono}
-use Rattle.rounds.specs.declared.graph.Choice.TheVariants.{End, Take}
 use Rattle.rounds.specs.declared.graph.Tentative.{Tentative}
 use Rattle.rounds.specs.Graph.{Graph, NumberedWay, end, by_action, by_sensing, numbered_total}
-use Rattle.rounds.specs.Rounds.{total_at, both, rest_total, unless_settled, best_below, taken, by_step_at, best_step, tentative, best_node}
-use Rattle.rounds.proofs.Lists.{none_some, cases_some, step_within}
+use Rattle.rounds.specs.Rounds.{total_at, both, rest_total, unless_settled, best_below, taken, by_step, best_step, tentative, best_node}
+use Rattle.std.proofs.lemmas.Option.{none-some}
+use Rattle.rounds.proofs.Lists.{cases_some, step_within}
 use Rattle.rounds.proofs.Scans.{best_none, best_least}
 
 module _ {T : Type 0} {le : T → T → Bool} {nothing : T} {add : Step → T → T} (laws : Laws le nothing add) (g : Graph) (totals : List (Option T)) where
@@ -35,27 +36,27 @@ module _ {T : Type 0} {le : T → T → Bool} {nothing : T} {add : Step → T �
   front_up v w h f = record { node = f.node; tried = f.tried; is_node = f.is_node; is_tried = f.is_tried; at_most = laws.transitive f.tried.total v w f.at_most h }
 
   -- what is tried at an unsettled node
-  tried_at : (i : ℕ) (tried : Option (Tentative T)) → total_at totals i ≡ None → cond (g.ends i) (Some (record { node = i; choice = End; total = nothing })) (best_step le nothing add g.steps totals i (g.move i)) ≡ tried → tentative le nothing add g totals i ≡ tried
+  tried_at : (i : ℕ) (tried : Option (Tentative T)) → total_at totals i ≡ None → cond (g.ends i) (Some (record { node = i; step = None; total = nothing })) (best_step le nothing add g totals i) ≡ tried → tentative le nothing add g totals i ≡ tried
   tried_at i tried none e =
-      ap (λ (v : Option T). unless_settled v (cond (g.ends i) (Some (record { node = i; choice = End; total = nothing })) (best_step le nothing add g.steps totals i (g.move i)))) none ∙ e
+      ap (λ (v : Option T). unless_settled v (cond (g.ends i) (Some (record { node = i; step = None; total = nothing })) (best_step le nothing add g totals i))) none ∙ e
 
   -- where a node may end, it is such a node for every total
   front_end : (i : ℕ) (v : T) → i < length totals → total_at totals i ≡ None → g.ends i ≡ true → Front v
   front_end i v h none ended =
-      record { node = i; tried = record { node = i; choice = End; total = nothing }; is_node = h; is_tried = tried_at i _ none (cond-true _ _ _ ended); at_most = laws.least v }
+      record { node = i; tried = record { node = i; step = None; total = nothing }; is_node = h; is_tried = tried_at i _ none (cond-true _ _ _ ended); at_most = laws.least v }
 
   -- where a step leads to settled nodes only, it is one for that step's total
   front_step : (i k : ℕ) (x : Step) (rest : T) → i < length totals → total_at totals i ≡ None → step_at g.steps k ≡ Some x → rest_total le totals (g.move i k) ≡ Some rest → Front (add x rest)
   front_step i k x rest h none of_steps is-rest =
-      let rule : ℕ → Option (Tentative T) = λ n. by_step_at le nothing add totals i n (g.move i n) (step_at g.steps n) in
-      let tried : Tentative T = record { node = i; choice = Take k; total = add x rest } in
-      let here : rule k ≡ Some tried = ap (by_step_at le nothing add totals i k (g.move i k)) of_steps ∙ ap (taken le nothing add i k x) is-rest in
+      let rule : ℕ → Option (Tentative T) = λ n. option_and_then (by_step le nothing add totals i n (g.move i n)) (step_at g.steps n) in
+      let tried : Tentative T = record { node = i; step = Some k; total = add x rest } in
+      let here : rule k ≡ Some tried = ap (option_and_then (by_step le nothing add totals i k (g.move i k))) of_steps ∙ ap (option_map (taken le nothing add i k x)) is-rest in
       let within : k < length g.steps = step_within g.steps k x of_steps in
       elim (cases_Bool (g.ends i)) [
         | inl ended ↦ front_end i (add x rest) h none ended
         | inr ended ↦
             elim (cases_some (best_below le rule (length g.steps))) [
-              | inl best ↦ absurd (none_some (sym (best_none laws rule (length g.steps) best k within) ∙ here))
+              | inl best ↦ absurd (none-some _ (sym (best_none laws rule (length g.steps) best k within) ∙ here))
               | inr best ↦
                   record {
                     node = i;
@@ -112,4 +113,4 @@ module _ {T : Type 0} {le : T → T → Bool} {nothing : T} {add : Step → T �
   pub none_left : BelowAll → g.size ≡ length totals → best_node le nothing add g totals ≡ None → (i : ℕ) → i < length totals → total_at totals i ≡ None → NumberedWay g i → ⊥
   none_left below size best i h none p =
       let f = front below size p h none in
-      none_some (sym (best_none laws (tentative le nothing add g totals) (length totals) best f.node f.is_node) ∙ f.is_tried)
+      none-some _ (sym (best_none laws (tentative le nothing add g totals) (length totals) best f.node f.is_node) ∙ f.is_tried)

@@ -1,24 +1,14 @@
 -- The best of several tentative totals: one more number, and what it tells of all.
 -- Assumes nothing.
-use Rattle.std.proofs.Common.{◌≡◌, ℕ, zero, suc, ◌+◌, ◌<◌, Bool, true, ◌⊎◌, List, Some, None, Option, sym, refl, ap, ◌∙◌, subst, inl, inr, not-suc-le-zero, add-one, arith}
-use Rattle.std.proofs.lemmas.Bool.{cases_Bool, cases_lt, cond-true, cond-false}
+use Rattle.std.proofs.Common.{◌≡◌, ℕ, zero, suc, ◌<◌, Bool, true, ◌⊎◌, Some, None, Option, sym, refl, ◌∙◌, subst, inl, inr, not-suc-le-zero, arith}
+use Rattle.std.proofs.lemmas.Bool.{cases_lt, cond_both}
 use Rattle.worlds.specs.Steps.{Step}
 use Rattle.tally.specs.Laws.{Laws}
 use Rattle.theory.proofs.Order.{le_self}
-use Rattle.rounds.specs.declared.graph.Move.{Move}
 use Rattle.rounds.specs.declared.graph.Tentative.{Tentative}
-use Rattle.rounds.specs.Rounds.{better, best_below, by_step, by_step_at}
-use Rattle.rounds.proofs.Lists.{none_some, some_same, cases_some}
-
-module _ {T : Type 0} (le : T → T → Bool) where
-  -- the best below k, joined with that of k, is the best below k + 1
-  pub best_more : (rule : ℕ → Option (Tentative T)) (k : ℕ) (best here r : Option (Tentative T)) → best ≡ best_below le rule k → here ≡ rule k → r ≡ better le best here → r ≡ best_below le rule (k + 1)
-  best_more rule k best here r e f h = h ∙ ap (λ (b : Option (Tentative T)). better le b here) e ∙ ap (better le (best_below le rule k)) f ∙ ap (best_below le rule) (sym (add-one k))
-
-module _ {T : Type 0} (le : T → T → Bool) (nothing : T) (add : Step → T → T) where
-  -- the tentative total by a step, read off the list of steps
-  pub by_step_read : (totals : List (Option T)) (i k : ℕ) (to row : Move) (x : Step) (o : Option Step) (r : Option (Tentative T)) → r ≡ by_step le nothing add totals i k to x → to ≡ row → o ≡ Some x → r ≡ by_step_at le nothing add totals i k row o
-  by_step_read totals i k to row x o r h e f = h ∙ ap (λ (m : Move). by_step le nothing add totals i k m x) e ∙ ap (by_step_at le nothing add totals i k row) (sym f)
+use Rattle.rounds.specs.Rounds.{better_of, better, best_below}
+use Rattle.std.proofs.lemmas.Option.{none-some, same_Some}
+use Rattle.rounds.proofs.Lists.{cases_some}
 
 -- below suc n is below n, or n
 below_suc : (k n : ℕ) → k < suc n → (k < n) ⊎ (k ≡ n)
@@ -29,42 +19,33 @@ module _ {T : Type 0} {le : T → T → Bool} {nothing : T} {add : Step → T �
 
   better_none : (a b : Option (Tentative T)) → better le a b ≡ None → (a ≡ None) × (b ≡ None)
   better_none None None e = (refl, refl)
-  better_none None (Some b) e = absurd (none_some (sym e))
-  better_none (Some a) None e = absurd (none_some (sym e))
-  better_none (Some a) (Some b) e =
-      elim (cases_Bool (le a.total b.total)) [
-        | inl h ↦ absurd (none_some (sym e ∙ cond-true _ (Some a) (Some b) h))
-        | inr h ↦ absurd (none_some (sym e ∙ cond-false _ (Some a) (Some b) h))
-      ]
+  better_none None (Some b) e = absurd (none-some _ (sym e))
+  better_none (Some a) None e = absurd (none-some _ (sym e))
+  better_none (Some a) (Some b) e = absurd (none-some _ (sym e))
 
   better_one : (a b : Option (Tentative T)) (o : Tentative T) → better le a b ≡ Some o → (a ≡ Some o) ⊎ (b ≡ Some o)
   better_one None b o e = inr e
   better_one (Some a) None o e = inl e
   better_one (Some a) (Some b) o e =
-      elim (cases_Bool (le a.total b.total)) [
-        | inl h ↦ inl (sym (cond-true _ (Some a) (Some b) h) ∙ e)
-        | inr h ↦ inr (sym (cond-false _ (Some a) (Some b) h) ∙ e)
-      ]
+      cond_both (le a.total b.total) a b (λ (x : Tentative T). Some x ≡ Some o → (Some a ≡ Some o) ⊎ (Some b ≡ Some o)) (λ h. inl) (λ h. inr) e
 
-  -- totals of the same tentative are at most each other
-  same_le : (a o : Tentative T) → Some a ≡ Some o → le o.total a.total ≡ true
-  same_le a o e = subst (λ (x : Tentative T). le x.total a.total ≡ true) (some_same e) (le_self laws a.total)
+  -- what is at most a total stays so under another name
+  same_le : (a o : Tentative T) (t : T) → le a.total t ≡ true → Some a ≡ Some o → le o.total t ≡ true
+  same_le a o t h e = subst (λ (x : Tentative T). le x.total t ≡ true) (same_Some _ _ e) h
 
   better_left : (a : Tentative T) (b : Option (Tentative T)) (o : Tentative T) → better le (Some a) b ≡ Some o → le o.total a.total ≡ true
-  better_left a None o e = same_le a o e
+  better_left a None o e = same_le a o a.total (le_self laws a.total) e
   better_left a (Some b) o e =
-      elim (cases_Bool (le a.total b.total)) [
-        | inl h ↦ same_le a o (sym (cond-true _ (Some a) (Some b) h) ∙ e)
-        | inr h ↦ subst (λ (x : Tentative T). le x.total a.total ≡ true) (some_same (sym (cond-false _ (Some a) (Some b) h) ∙ e)) (laws.total a.total b.total h)
-      ]
+      same_le (better_of le a b) o a.total
+      (cond_both (le a.total b.total) a b (λ (x : Tentative T). le x.total a.total ≡ true) (λ h. le_self laws a.total) (λ h. laws.total a.total b.total h))
+      e
 
   better_right : (a : Option (Tentative T)) (b o : Tentative T) → better le a (Some b) ≡ Some o → le o.total b.total ≡ true
-  better_right None b o e = same_le b o e
+  better_right None b o e = same_le b o b.total (le_self laws b.total) e
   better_right (Some a) b o e =
-      elim (cases_Bool (le a.total b.total)) [
-        | inl h ↦ subst (λ (x : Tentative T). le x.total b.total ≡ true) (some_same (sym (cond-true _ (Some a) (Some b) h) ∙ e)) h
-        | inr h ↦ same_le b o (sym (cond-false _ (Some a) (Some b) h) ∙ e)
-      ]
+      same_le (better_of le a b) o b.total
+      (cond_both (le a.total b.total) a b (λ (x : Tentative T). le x.total b.total ≡ true) (λ h. h) (λ h. le_self laws b.total))
+      e
 
   -- ## Of all below n
 
@@ -80,7 +61,7 @@ module _ {T : Type 0} {le : T → T → Bool} {nothing : T} {add : Step → T �
 
   -- the best is one of them
   pub best_one : (rule : ℕ → Option (Tentative T)) (n : ℕ) (o : Tentative T) → best_below le rule n ≡ Some o → (k : ℕ) × (k < n) × (rule k ≡ Some o)
-  best_one rule zero o e = absurd (none_some e)
+  best_one rule zero o e = absurd (none-some _ e)
   best_one rule (suc n) o e =
       elim (better_one (best_below le rule n) (rule n) o e) [
         | inl l ↦ let p = best_one rule n o l in (p.0, omega (arith, p.1), p.2)
@@ -94,7 +75,7 @@ module _ {T : Type 0} {le : T → T → Bool} {nothing : T} {add : Step → T �
       elim (below_suc k n h) [
         | inl l ↦
             elim (cases_some (best_below le rule n)) [
-              | inl none ↦ absurd (none_some (sym (best_none rule n none k l) ∙ f))
+              | inl none ↦ absurd (none-some _ (sym (best_none rule n none k l) ∙ f))
               | inr some ↦
                   laws.transitive o.total some.0.total a.total
                   (better_left some.0 (rule n) o (subst (λ (b : Option (Tentative T)). better le b (rule n) ≡ Some o) some.1 e))

@@ -1,45 +1,54 @@
 -- A search graph over numbers, its finite procedures and their totals.
-use Rattle.std.specs.Prelude.{◌≡◌, ℕ, ◌<◌, min, Bool, true, false, List, [], map, length, Some, slice_index_or}
-use Rattle.worlds.specs.declared.step.Step as code_step
+use Rattle.std.specs.Prelude.{◌≡◌, ℕ, ◌<◌, min, Bool, true, false, List, map, length, Some, None, Option, option_and_then, slice_get, slice_index_or}
+use Rattle.std.specs.Option.{option_map_or}
 use Rattle.worlds.specs.Steps.{Step}
 use Rattle.worlds.specs.Tickets.{step_at}
 use Rattle.worlds.specs.Meaning.{step_of}
 use Rattle.theory.specs.Procedures.{larger}
+use Rattle.rounds.specs.declared.graph.Graph as code_graph
 use Rattle.rounds.specs.declared.graph.Move.{Move}
-use Rattle.rounds.specs.declared.graph.Move.TheVariants.{Shut, Go, Fork}
+use Rattle.rounds.specs.declared.graph.Move.TheVariants.{Go, Fork}
+use Rattle.rounds.specs.declared.graph.Node.{Node}
 
--- a search graph: nodes 0 to size - 1 stand for held sets; for each node and step number there is a move: shut, or an
--- action to the next node, or a sensing step to the nodes for yes and for no; `ends` says where a procedure may end
+-- a search graph: nodes 0 to size - 1 stand for held sets; for each node and step number there is a move, or none: of an
+-- action to the next node, or of a sensing step to the nodes for yes and for no; `ends` says where a procedure may end
 pub record Graph : Type 0 where
   pub size : ℕ
   pub steps : List Step
-  pub move : ℕ → ℕ → Move
+  pub move : ℕ → ℕ → Option Move
   pub ends : ℕ → Bool
 
--- the graph that lists give: a node without a row of moves, or a step without a move in the row, is shut, and a node of
--- which `ends` says nothing does not end
-abbrev pub graph_of : List code_step.Step → List (List Move) → List Bool → (size : ℕ) → Graph
-graph_of steps moves ends size = record {
+-- where a step leads from a node: a number that is no node has no moves, nor has a node one by a step that is not in its row
+abbrev pub move_at : List Node → (i k : ℕ) → Option Move
+move_at nodes i k = option_and_then (λ (n : Node). slice_index_or n.moves k None) (slice_get nodes i)
+
+-- whether a procedure may end at a node: at a number that is no node it may not
+abbrev pub ends_at : List Node → (i : ℕ) → Bool
+ends_at nodes i = option_map_or (λ (n : Node). n.ends) (slice_get nodes i) false
+
+-- the graph of so many nodes that the code's graph gives
+abbrev pub graph_of : code_graph.Graph → (size : ℕ) → Graph
+graph_of g size = record {
   size = size;
-  steps = map step_of steps;
-  move = λ i k. slice_index_or (slice_index_or moves i []) k Shut;
-  ends = λ i. slice_index_or ends i false;
+  steps = map step_of g.steps.now;
+  move = move_at g.nodes.now;
+  ends = ends_at g.nodes.now;
 }
 
--- how many nodes four lists have: those numbers that are places of each
-abbrev pub nodes_in : {A B C D : Type 0} → List A → List B → List C → List D → ℕ
-nodes_in moves ends totals marks = min (min (length moves) (length ends)) (min (length totals) (length marks))
+-- how many nodes three lists have: those numbers that are places of each
+abbrev pub nodes_in : {A B C : Type 0} → List A → List B → List C → ℕ
+nodes_in nodes totals marks = min (length nodes) (min (length totals) (length marks))
 
 -- a finite procedure from a node: it ends where it may; or it takes a step by a move to nodes, and goes on from each of
--- them. A move to a number that is not a node is as good as shut
+-- them. A move to a number that is not a node is as good as none
 pub data NumberedWay (g : Graph) : ℕ → Type 0 where
   end : (i : ℕ) → g.ends i ≡ true → NumberedWay g i
   by_action : (i k next : ℕ) (x : Step) →
-      step_at g.steps k ≡ Some x → g.move i k ≡ Go next → next < g.size →
+      step_at g.steps k ≡ Some x → g.move i k ≡ Some (Go next) → next < g.size →
       NumberedWay g next →
       NumberedWay g i
   by_sensing : (i k next other : ℕ) (x : Step) →
-      step_at g.steps k ≡ Some x → g.move i k ≡ Fork next other → next < g.size → other < g.size →
+      step_at g.steps k ≡ Some x → g.move i k ≡ Some (Fork next other) → next < g.size → other < g.size →
       NumberedWay g next → NumberedWay g other →
       NumberedWay g i
 

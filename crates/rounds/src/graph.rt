@@ -1,27 +1,51 @@
 // A search graph as the code keeps it, and what settling leaves of each node.
+use worlds::step::Step;
 
-// What a step does at a node.
+// Where a step leads that is open at a worked node.
 #[derive(Clone, Copy)]
 pub enum Move {
-    // the step is not open there, or the node is not worked
-    Shut,
     // an action leads to this node
     Go(u16),
     // a sensing step leads to these nodes, for yes and for no
     Fork(u16, u16),
 }
 
-// How a node was settled: a procedure ends there, or takes the step of this number.
+// A node: where each step leads from it, none where the step is not open or the node is not worked; and whether a procedure
+// may end there.
 #[derive(Clone, Copy)]
-pub enum Choice {
-    End,
-    Take(usize),
+pub struct Node {
+    pub moves: [Option<Move>; 32],
+    pub ends: bool,
 }
 
-// How a node was settled, and how many were settled before it.
+// A search graph: the steps that its moves are numbered by, and the nodes that its moves lead to.
+#[derive(Clone, Copy)]
+pub struct Graph<'a> {
+    pub steps: &'a [Step],
+    pub nodes: &'a [Node],
+}
+
+impl Graph<'_> {
+    ghost use Rattle.std.specs.Prelude.{◌≡◌};
+    ghost use Rattle.rounds.specs.Graph.{move_at, ends_at};
+
+    pub(crate) fn move_at(&self, node: usize, step: usize) -> Option<Move>
+        ensures { result ≡ move_at self.now.nodes.now node step }
+    {
+        self.nodes.get(node)?.moves.get(step).copied().flatten()
+    }
+
+    pub(crate) fn may_end(&self, node: usize) -> bool
+        ensures { result ≡ ends_at self.now.nodes.now node }
+    {
+        self.nodes.get(node).is_some_and(|node| node.ends)
+    }
+}
+
+// How a node was settled, and how many were settled before it: a procedure takes the step of this number, or ends there.
 #[derive(Clone, Copy)]
 pub struct Mark {
-    pub choice: Choice,
+    pub step: Option<usize>,
     pub rank: usize,
 }
 
@@ -29,6 +53,6 @@ pub struct Mark {
 #[derive(Clone, Copy)]
 pub struct Tentative<V: Copy> {
     pub node: usize,
-    pub choice: Choice,
+    pub step: Option<usize>,
     pub total: V,
 }

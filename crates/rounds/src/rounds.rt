@@ -1,12 +1,11 @@
 // One round of settling: the least tentative total of all nodes that are not settled.
-ghost use Rattle.std.specs.Prelude.{◌≡◌, ◌<◌, false, [], map, length, if◌then◌else◌, slice_index_or};
+ghost use Rattle.std.specs.Prelude.{◌≡◌, length};
 ghost use Rattle.worlds.specs.Meaning.{step_of};
 ghost use Rattle.theory.specs.Procedures.{larger};
-ghost use Rattle.rounds.specs.declared.graph.Move.TheVariants.{Shut};
-ghost use Rattle.rounds.specs.Graph.{graph_of};
-ghost use Rattle.rounds.specs.Rounds.{total_at, both, rest_total, better, by_step, best_step, tentative, best_node};
+ghost use Rattle.rounds.specs.Graph.{move_at, graph_of};
+ghost use Rattle.rounds.specs.Rounds.{total_at, rest_total, better_of, by_step, best_step, tentative, best_node};
 
-use crate::graph::{Choice, Move, Tentative};
+use crate::graph::{Graph, Move, Tentative};
 use tally::Tally;
 use worlds::step::Step;
 
@@ -16,147 +15,92 @@ fn larger_of<T: Tally>(a: T::Total, b: T::Total) -> T::Total
     if T::at_most(a, b) { b } else { a }
 }
 
-fn known<V: Copy>(totals: &[Option<V>], node: u16) -> Option<V>
-    ensures { result ≡ total_at totals.now node }
+// The one with the smaller total; the earlier where they tie. Chains call it in a closure: passed by name it gets no proof.
+fn better<T: Tally>(earlier: Tentative<T::Total>, later: Tentative<T::Total>) -> Tentative<T::Total>
+    ensures { result ≡ better_of T.Tally.le earlier later }
 {
-    let i = node as usize;
-    if i < totals.len() { totals[i] } else { None }
-}
-
-fn larger_known<T: Tally>(a: Option<T::Total>, b: Option<T::Total>) -> Option<T::Total>
-    ensures { result ≡ both T.Tally.le a b }
-{
-    match (a, b) {
-        (Some(x), Some(y)) => Some(larger_of::<T>(x, y)),
-        _ => None,
-    }
-}
-
-// What follows a move, where all nodes that it leads to are settled.
-fn rest_of<T: Tally>(totals: &[Option<T::Total>], to: Move) -> Option<T::Total>
-    ensures { result ≡ rest_total T.Tally.le totals.now to }
-{
-    match to {
-        Move::Shut => None,
-        Move::Go(next) => known(totals, next),
-        Move::Fork(next, other) => larger_known::<T>(known(totals, next), known(totals, other)),
-    }
-}
-
-fn move_at(moves: &[[Move; 32]], node: usize, step: usize) -> Move
-    ensures { result ≡ slice_index_or (slice_index_or moves.now node []) step Shut }
-{
-    if node < moves.len() && step < 32 {
-        moves[node][step]
+    if T::at_most(earlier.total, later.total) {
+        earlier
     } else {
-        Move::Shut
+        later
     }
 }
 
-fn may_end(ends: &[bool], node: usize) -> bool
-    ensures { result ≡ slice_index_or ends.now node false }
-{
-    node < ends.len() && ends[node]
+// A round: the graph, and the totals of the nodes so far.
+#[derive(Drop)]
+pub(crate) struct Round<'a, T: Tally> {
+    pub graph: Graph<'a>,
+    pub totals: &'a [Option<T::Total>],
 }
 
-// Whether the later of two tentative totals is the better: where they tie, it is not.
-fn improves<T: Tally>(
-    earlier: Option<Tentative<T::Total>>,
-    later: Option<Tentative<T::Total>>,
-) -> bool
-    ensures { better T.Tally.le earlier later ≡ (if result then later else earlier) }
-{
-    match (earlier, later) {
-        (Some(a), Some(b)) => !T::at_most(a.total, b.total),
-        (None, Some(_)) => true,
-        (_, None) => false,
+impl<T: Tally> Round<'_, T> {
+    fn known(&self, node: usize) -> Option<T::Total>
+        ensures { result ≡ total_at self.now.totals.now node }
+    {
+        self.totals.get(node).copied().flatten()
     }
-}
 
-// Keeps the better of two. It writes in place, since most of what is tried does not improve on the best.
-fn keep_better<T: Tally>(best: &mut Option<Tentative<T::Total>>, new: Option<Tentative<T::Total>>)
-    ensures { best.new ≡ better T.Tally.le best.old new }
-{
-    if improves::<T>(*best, new) {
-        *best = new;
+    // What follows a move, where all nodes that it leads to are settled.
+    fn rest_of(&self, to: Move) -> Option<T::Total>
+        ensures { result ≡ rest_total T.Tally.le self.now.totals.now (Some to) }
+    {
+        match to {
+            Move::Go(next) => self.known(usize::from(next)),
+            Move::Fork(next, other) => {
+                let on_yes = self.known(usize::from(next))?;
+                let on_no = self.known(usize::from(other))?;
+                Some(larger_of::<T>(on_yes, on_no))
+            }
+        }
     }
-}
 
-// The tentative total of a node by a step, of this number, that leads there as `to` says.
-fn by_step<T: Tally>(
-    step: &Step,
-    totals: &[Option<T::Total>],
-    node: usize,
-    number: usize,
-    to: Move,
-) -> Option<Tentative<T::Total>>
-    ensures { result ≡ by_step T.Tally.le T.Tally.nothing T.Tally.add totals.now node number to (step_of step.now) }
-{
-    match rest_of::<T>(totals, to) {
-        Some(rest) => Some(Tentative {
+    // The tentative total of a node by a step, of this number.
+    fn by_step(&self, node: usize, number: usize, step: &Step) -> Option<Tentative<T::Total>>
+        ensures { result ≡ by_step T.Tally.le T.Tally.nothing T.Tally.add self.now.totals.now node number (move_at self.now.graph.nodes.now node number) (step_of step.now) }
+    {
+        let rest = self.rest_of(self.graph.move_at(node, number)?)?;
+        Some(Tentative {
             node,
-            choice: Choice::Take(number),
+            step: Some(number),
             total: T::plus(step, rest),
-        }),
-        None => None,
+        })
     }
-}
 
-// The least by any step; of steps that tie, the first.
-fn best_step<T: Tally>(
-    steps: &[Step],
-    moves: &[[Move; 32]],
-    totals: &[Option<T::Total>],
-    node: usize,
-) -> Option<Tentative<T::Total>>
-    ensures { result ≡ best_step T.Tally.le T.Tally.nothing T.Tally.add (map step_of steps.now) totals.now node (λ k. slice_index_or (slice_index_or moves.now node []) k Shut) }
-{
-    let mut best = None;
-    for k in 0..steps.len() {
-        let here = by_step::<T>(&steps[k], totals, node, k, move_at(moves, node, k));
-        keep_better::<T>(&mut best, here);
+    // The least by any step; of steps that tie, the first.
+    fn best_step(&self, node: usize) -> Option<Tentative<T::Total>>
+        ensures { result ≡ best_step T.Tally.le T.Tally.nothing T.Tally.add (graph_of self.now.graph (length self.now.totals.now)) self.now.totals.now node }
+    {
+        self.graph
+            .steps
+            .iter()
+            .enumerate()
+            .filter_map(|(number, step)| self.by_step(node, number, step))
+            .reduce(|best, here| better::<T>(best, here))
     }
-    best
-}
 
-// The least tentative total of a node that is not settled. Where it ends, that is nothing, and no step gives less.
-fn tentative_at<T: Tally>(
-    steps: &[Step],
-    moves: &[[Move; 32]],
-    ends: &[bool],
-    totals: &[Option<T::Total>],
-    node: usize,
-) -> Option<Tentative<T::Total>>
-    requires { node < length totals.now }
-    ensures { result ≡ tentative T.Tally.le T.Tally.nothing T.Tally.add (graph_of steps.now moves.now ends.now (length totals.now)) totals.now node }
-{
-    let known = totals[node];
-    if let Some(_) = known {
-        return None;
+    // The least tentative total of a node that is not settled. Where it ends, that is nothing, and no step gives less.
+    fn tentative_at(&self, node: usize) -> Option<Tentative<T::Total>>
+        ensures { result ≡ tentative T.Tally.le T.Tally.nothing T.Tally.add (graph_of self.now.graph (length self.now.totals.now)) self.now.totals.now node }
+    {
+        if self.known(node).is_some() {
+            return None;
+        }
+        if self.graph.may_end(node) {
+            return Some(Tentative {
+                node,
+                step: None,
+                total: T::nothing(),
+            });
+        }
+        self.best_step(node)
     }
-    if may_end(ends, node) {
-        return Some(Tentative {
-            node,
-            choice: Choice::End,
-            total: T::nothing(),
-        });
-    }
-    best_step::<T>(steps, moves, totals, node)
-}
 
-// The least of all nodes; of nodes that tie, the first.
-pub(crate) fn best_node<T: Tally>(
-    steps: &[Step],
-    moves: &[[Move; 32]],
-    ends: &[bool],
-    totals: &[Option<T::Total>],
-) -> Option<Tentative<T::Total>>
-    ensures { result ≡ best_node T.Tally.le T.Tally.nothing T.Tally.add (graph_of steps.now moves.now ends.now (length totals.now)) totals.now }
-{
-    let mut best = None;
-    for i in 0..totals.len() {
-        let here = tentative_at::<T>(steps, moves, ends, totals, i);
-        keep_better::<T>(&mut best, here);
+    // The least of all nodes; of nodes that tie, the first.
+    pub(crate) fn best_node(&self) -> Option<Tentative<T::Total>>
+        ensures { result ≡ best_node T.Tally.le T.Tally.nothing T.Tally.add (graph_of self.now.graph (length self.now.totals.now)) self.now.totals.now }
+    {
+        (0..self.totals.len())
+            .filter_map(|node| self.tentative_at(node))
+            .reduce(|best, here| better::<T>(best, here))
     }
-    best
 }

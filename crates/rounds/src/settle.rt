@@ -4,10 +4,9 @@ ghost use Rattle.rounds.specs.Graph.{graph_of, nodes_in};
 ghost use Rattle.rounds.specs.Rounds.{total_at};
 ghost use Rattle.rounds.specs.Settled.{Settled, Settles};
 
-use crate::graph::{Mark, Move, Tentative};
-use crate::rounds::best_node;
+use crate::graph::{Graph, Mark, Tentative};
+use crate::rounds::Round;
 use tally::Tally;
-use worlds::step::Step;
 
 // Writes down at what total a node is settled, how, and as which.
 fn write_down<V: Copy>(
@@ -18,60 +17,45 @@ fn write_down<V: Copy>(
 )
     requires { (best.node < length totals.old) × (best.node < length marks.old) }
     ensures totals { totals.new ≡ set totals.old best.node (Some best.total) }
-    ensures marks { marks.new ≡ set marks.old best.node (record { choice = best.choice; rank = rank }) }
+    ensures marks { marks.new ≡ set marks.old best.node (record { step = best.step; rank = rank }) }
 {
     totals[best.node] = Some(best.total);
     marks[best.node] = Mark {
-        choice: best.choice,
+        step: best.step,
         rank,
     };
 }
 
-// Settles one node a round, while some node has a tentative total. What is settled first has the least total of all, since
-// adding a step never gives less than the rest.
-fn settle_nodes<T: Tally>(
-    steps: &[Step],
-    moves: &[[Move; 32]],
-    ends: &[bool],
-    totals: &mut [Option<T::Total>],
-    marks: &mut [Mark],
-) -> usize
-    requires marked { length marks.old ≡ length totals.old }
-    requires clear { (i : ℕ) → i < length totals.old → total_at totals.old i ≡ None }
-    ensures { Settled T.Tally.le T.Tally.nothing T.Tally.add (graph_of steps.now moves.now ends.now (length totals.old)) totals.new marks.new result }
-{
-    let mut count = 0;
-    while let Some(best) = best_node::<T>(steps, moves, ends, totals) {
-        write_down(best, count, totals, marks);
-        count += 1;
+impl Graph<'_> {
+    // Settles one node a round, while some node has a tentative total. What is settled first has the least total of all, since
+    // adding a step never gives less than the rest.
+    fn settle_nodes<T: Tally>(&self, totals: &mut [Option<T::Total>], marks: &mut [Mark]) -> usize
+        requires marked { length marks.old ≡ length totals.old }
+        requires clear { (i : ℕ) → i < length totals.old → total_at totals.old i ≡ None }
+        ensures { Settled T.Tally.le T.Tally.nothing T.Tally.add (graph_of self.now (length totals.old)) totals.new marks.new result }
+    {
+        for rank in 0..totals.len() {
+            let round = Round::<T> {
+                graph: *self,
+                totals,
+            };
+            let Some(best) = round.best_node() else {
+                return rank;
+            };
+            write_down(best, rank, totals, marks);
+        }
+        totals.len()
     }
-    count
-}
 
-fn clear<V: Copy>(totals: &mut [Option<V>])
-    ensures { (i : ℕ) → i < length totals.new → total_at totals.new i ≡ None }
-{
-    for t in totals.iter_mut() {
-        *t = None;
+    // Gives each node the least total of any procedure from it, none exactly where there is none, and marks how and as which it
+    // was settled. Answers how many have a total. What the lists have beyond the nodes stays as it was.
+    // Totals and marks are lent one by one: working space is the caller's, who may lend working totals apart from marks.
+    pub fn settle<T: Tally>(&self, totals: &mut [Option<T::Total>], marks: &mut [Mark]) -> usize
+        ensures { Settles T.Tally.le T.Tally.nothing T.Tally.add (graph_of self.now (nodes_in self.now.nodes.now totals.old marks.old)) totals.old marks.old totals.new marks.new result }
+    {
+        let size = self.nodes.len().min(totals.len()).min(marks.len());
+        let nodes = &mut totals[..size];
+        nodes.fill(None);
+        self.settle_nodes::<T>(nodes, &mut marks[..size])
     }
-}
-
-// Gives each node the least total of any procedure from it, none exactly where there is none, and marks how and as which it
-// was settled. Answers how many have a total. What the lists have beyond the nodes stays as it was.
-pub fn settle<T: Tally>(
-    steps: &[Step],
-    moves: &[[Move; 32]],
-    ends: &[bool],
-    totals: &mut [Option<T::Total>],
-    marks: &mut [Mark],
-) -> usize
-    ensures { Settles T.Tally.le T.Tally.nothing T.Tally.add (graph_of steps.now moves.now ends.now (nodes_in moves.now ends.now totals.old marks.old)) totals.old marks.old totals.new marks.new result }
-{
-    let size = moves
-        .len()
-        .min(ends.len())
-        .min(totals.len().min(marks.len()));
-    let nodes = &mut totals[..size];
-    clear(nodes);
-    settle_nodes::<T>(steps, moves, ends, nodes, &mut marks[..size])
 }

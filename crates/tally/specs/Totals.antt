@@ -1,14 +1,10 @@
 -- How the two tallies add.
-use Rattle.std.specs.Prelude.{cond, ℕ, ◌+◌, nat_lt}
+use Rattle.std.specs.Prelude.{if◌then◌else◌, ℕ, ◌+◌, nat_lt}
 use Rattle.worlds.specs.Steps.{Step, action, sensing}
 
 -- one more, but 65,535 stays as it is
 abbrev pub one_more : ℕ → ℕ
-one_more n = cond (nat_lt n 65535) (n + 1) n
-
--- the larger of two numbers
-abbrev pub larger : ℕ → ℕ → ℕ
-larger a b = cond (nat_lt a b) b a
+one_more n = if nat_lt n 65535 then n + 1 else n
 
 -- the class of a step
 abbrev pub class_of : Step → ℕ

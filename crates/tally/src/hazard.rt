@@ -1,9 +1,9 @@
-ghost use Rattle.std.specs.Prelude.{nat_le};
-ghost use Rattle.tally.specs.Totals.{larger, class_of};
+ghost use Rattle.std.specs.Prelude.{max, nat_le};
+ghost use Rattle.tally.specs.Totals.{class_of};
 ghost use Rattle.std.proofs.Common.{rules};
 
 use crate::Tally;
-use worlds::step;
+use worlds::step::Step;
 
 // The tally of hazard: a procedure is as hazardous as the most hazardous class among its steps.
 pub struct Hazard;
@@ -15,10 +15,11 @@ impl Tally for Hazard {
 
     ghost nothing = { 0 };
 
-    ghost add = { λ s rest. larger (class_of s) rest };
+    ghost add = { λ s rest. max (class_of s) rest };
 
     ghost lawful = { Prim.search rules };
 
+    // This and the next are as in `Steps`: a default body would ask `Ord` of every tally's totals, a trait between is longer.
     fn nothing() -> u16 {
         u16::MIN
     }
@@ -27,11 +28,11 @@ impl Tally for Hazard {
         a <= b
     }
 
-    fn plus(step: &step::Step, rest: u16) -> u16 {
+    fn plus(step: &Step, rest: u16) -> u16 {
         let class = match step {
-            step::Step::Action(action) => action.class as u16,
-            step::Step::Sensing(sensing) => sensing.class as u16,
+            Step::Action(action) => action.class,
+            Step::Sensing(sensing) => sensing.class,
         };
-        if class < rest { rest } else { class }
+        u16::from(class).max(rest)
     }
 }

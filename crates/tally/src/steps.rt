@@ -3,7 +3,7 @@ ghost use Rattle.tally.specs.Totals.{one_more};
 ghost use Rattle.std.proofs.Common.{rules};
 
 use crate::Tally;
-use worlds::step;
+use worlds::step::Step;
 
 // The tally that counts steps: each adds one, and the count stays at 65,535 once there.
 pub struct Steps;
@@ -27,7 +27,7 @@ impl Tally for Steps {
         a <= b
     }
 
-    fn plus(step: &step::Step, rest: u16) -> u16 {
-        if rest < 65535 { rest + 1 } else { rest }
+    fn plus(step: &Step, rest: u16) -> u16 {
+        rest.saturating_add(1)
     }
 }

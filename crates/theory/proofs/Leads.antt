@@ -1,7 +1,7 @@
 -- There is no lead exactly when floor and ceiling agree; what they agree on is the least total.
 -- Assumes nothing.
 use Rattle.std.proofs.Common.{◌≡◌, ℕ, Bool, true, false, not, ◌||◌, ◌⊎◌, [], ◌∷◌, Some, None, Option, sym, refl, ◌∙◌, subst, inl, inr}
-use Rattle.std.proofs.lemmas.Bool.{both_ways, cases_Bool, not-true, not_from_false, or_cases, or_right}
+use Rattle.std.proofs.lemmas.Bool.{both_ways, cases_Bool, not-true, or_cases}
 use Rattle.worlds.specs.Worlds.{In}
 use Rattle.worlds.specs.Steps.{Step, action, sensing}
 use Rattle.worlds.specs.Tickets.{Ticket}
@@ -12,7 +12,7 @@ use Rattle.theory.specs.Bounds.{end, by_action, by_sensing, as_procedure, way_to
 use Rattle.theory.specs.Theorems.{NoLeadExactlyWhenAgreed, LeadsAreHeld, AgreedIsBest, AgreedOnNone}
 use Rattle.theory.proofs.Order.{larger_mono, bound_same, bound_decided, least_below, least_one}
 use Rattle.theory.proofs.Ceilings.{ceiling_is_reached}
-use Rattle.theory.proofs.Narrowing.{floor_is_below}
+use Rattle.theory.proofs.Narrowing.{end_unworked, floor_is_below}
 use Rattle.theory.proofs.Floors.{sure_is_covered, floor_is_not_above_sure}
 
 -- an unworked set that is no aim set has no procedure for the ceiling
@@ -27,7 +27,7 @@ module _ {T : Type 0} {le : T → T → Bool} {nothing : T} {add : Step → T �
   -- the floor and the ceiling of an unworked set that is no aim set differ
   unworked_differs : (t : Ticket) (worked : Belief t → Bool) (s : Belief t) (b : Option T) → worked s ≡ false → aim_set t s ≡ false → Floor le nothing add t worked s b → Ceiling le nothing add t worked s b → ⊥
   unworked_differs t worked s None unworked no_aim floor ceiling =
-      floor (end s (or_right (aim_set t s) _ (not_from_false _ unworked)))
+      floor (end_unworked t worked s unworked)
   unworked_differs t worked s (Some b) unworked no_aim floor ceiling = no_ceiling t worked ceiling.0.0 unworked no_aim
 
   -- so a set where they agree is joined to no lead

@@ -1,14 +1,18 @@
 -- No floor is above its ceiling, and working more sets brings the two no further apart.
 -- Assumes nothing.
-use Rattle.std.proofs.Common.{◌≡◌, Bool, true, not, ◌||◌, refl, ap, ap₂, inl, inr}
+use Rattle.std.proofs.Common.{◌≡◌, Bool, true, false, not, ◌||◌, refl, ap, ap₂, inl, inr}
 use Rattle.std.proofs.lemmas.Bool.{both_ways, cases_Bool, not-true, not_from_false, or_cases, or_left, or_right}
 use Rattle.worlds.specs.Steps.{Step, action, sensing}
 use Rattle.worlds.specs.Tickets.{Ticket}
 use Rattle.tally.specs.Laws.{Laws}
 use Rattle.theory.specs.Procedures.{Belief, larger}
 use Rattle.theory.specs.Bounds.{Way, end, by_action, by_sensing, way_total, CeilingWay, FloorWay, aim_set}
-use Rattle.theory.specs.Theorems.{BoundsAreSingle, FloorIsBelow, WorkingNarrows}
-use Rattle.theory.proofs.Order.{le_equal, larger_mono, least_below, least_one}
+use Rattle.theory.specs.Theorems.{FloorIsBelow, WorkingNarrows}
+use Rattle.theory.proofs.Order.{le_equal, larger_mono, least_below}
+
+-- for a floor a procedure may end in an unworked set
+abbrev pub end_unworked : (t : Ticket) (worked : Belief t → Bool) (s : Belief t) → worked s ≡ false → FloorWay t worked s
+end_unworked t worked s unworked = end s (or_right (aim_set t s) _ (not_from_false _ unworked))
 
 module _ {T : Type 0} {le : T → T → Bool} {nothing : T} {add : Step → T → T} (laws : Laws le nothing add) where
   -- where more sets are worked and more sets are ends, the same procedure still counts, at the same total
@@ -32,13 +36,6 @@ module _ {T : Type 0} {le : T → T → Bool} {nothing : T} {add : Step → T �
       let q = widened t worked worked (aim_set t) (λ r. aim_set t r || not (worked r)) (λ r h. h) (λ r h. or_left _ _ h) p in
       (q.0, le_equal laws _ _ q.1)
 
-  -- the least of either kind of procedures is one at most
-  pub bounds_are_single : BoundsAreSingle le nothing add
-  bounds_are_single t worked s b c = (
-    λ first second. least_one laws (λ p. way_total le nothing add p) b c first second,
-    λ first second. least_one laws (λ p. way_total le nothing add p) b c first second,
-  )
-
   -- so no floor is above its ceiling
   pub floor_is_below : FloorIsBelow le nothing add
   floor_is_below t worked s b c floor ceiling =
@@ -54,20 +51,20 @@ module _ {T : Type 0} {le : T → T → Bool} {nothing : T} {add : Step → T �
               | inl aim ↦ (end s (or_left _ _ aim), laws.least _)
               | inr not_more ↦ absurd (both_ways _ (not-true _ not_more) (still s was))
             ]
-        | inr was-not ↦ (end s (or_right (aim_set t s) _ (not_from_false _ was-not)), laws.least _)
+        | inr was-not ↦ (end_unworked t worked s was-not, laws.least _)
       ]
   cut t worked more still (by_action s k class precondition outcomes now-worked taken rest) =
       let q = cut t worked more still rest in
       elim (cases_Bool (worked s)) [
         | inl was ↦ (by_action s k class precondition outcomes was taken q.0, laws.monotone _ _ _ q.1)
-        | inr was-not ↦ (end s (or_right (aim_set t s) _ (not_from_false _ was-not)), laws.least _)
+        | inr was-not ↦ (end_unworked t worked s was-not, laws.least _)
       ]
   cut t worked more still (by_sensing s k class precondition l now-worked taken on_yes on_no) =
       let q = cut t worked more still on_yes in
       let r = cut t worked more still on_no in
       elim (cases_Bool (worked s)) [
         | inl was ↦ (by_sensing s k class precondition l was taken q.0 r.0, laws.monotone _ _ _ (larger_mono laws _ _ _ _ q.1 r.1))
-        | inr was-not ↦ (end s (or_right (aim_set t s) _ (not_from_false _ was-not)), laws.least _)
+        | inr was-not ↦ (end_unworked t worked s was-not, laws.least _)
       ]
 
   -- a procedure for the ceiling still is one with more sets worked

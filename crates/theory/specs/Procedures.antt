@@ -1,5 +1,5 @@
 -- Procedures, what it is for one to reach the aim surely, and its total.
-use Rattle.std.specs.Prelude.{◌≡◌, ℕ, Bool, true, false, cond, Some, None, Option}
+use Rattle.std.specs.Prelude.{◌≡◌, ℕ, Bool, true, false, if◌then◌else◌, Some, None, Option}
 use Rattle.worlds.specs.Worlds.{World, holds, meets, In}
 use Rattle.worlds.specs.Steps.{Outcome, Step, action, sensing, after}
 use Rattle.worlds.specs.Tickets.{Ticket, step_at}
@@ -49,11 +49,11 @@ Surely t s p = (w : World t.conditions) → s w ≡ true → Sure t p w
 
 -- the larger of two totals
 abbrev pub larger : {T : Type 0} → (T → T → Bool) → T → T → T
-larger le a b = cond (le a b) b a
+larger le a b = if le a b then b else a
 
 -- what a branch counts: nothing where no world takes it
 abbrev pub branch_total : {T : Type 0} → (nothing : T) → (n : ℕ) → Worlds n → (rest : Worlds n → T) → T
-branch_total nothing n s rest = cond (none_in n s) nothing (rest s)
+branch_total nothing n s rest = if none_in n s then nothing else rest s
 
 module _ {T : Type 0} (le : T → T → Bool) (nothing : T) (add : Step → T → T) where
   -- an action added to the total of the rest, which starts from all worlds that the action may give

@@ -1,8 +1,0 @@
-use Rattle.std.proofs.Common.{◌<◌, ◌≢◌, length, arith, get_or-set_other, get_or-set_same, below_more}
-use Rattle.rounds.proofs.settle.clear.Goals as goal
-
-pub loop-t-preserved : goal.loop-t-preserved
-loop-t-preserved g c =
-    below_more _ _
-    (λ k h. let ne : k ≢ c.loop-t.t-index = omega arith in rw get_or-set_other (c.loop-t.invariant k h))
-    (let lt : c.loop-t.t-index < length c.loop-t.totals = omega arith in rw get_or-set_same)
