@@ -1,4 +1,5 @@
-// Sets of worlds as sixteen words of 64 bits, a bit for each world number below 1024.
+// Sets of worlds as sixteen words of 64 bits, a bit for each world number below 1024. The number k of a word is a plain number
+// below 16: a type of its own would be made at each turn over the words, only to be read out again at each index.
 ghost use Rattle.std.specs.Prelude.{◌≡◌, ℕ, ◌+◌, ◌*◌, ◌<◌, true, ◌||◌, ◌==◌};
 ghost use Rattle.worlds.specs.Worlds.{World, meets, speaks_within};
 ghost use Rattle.worlds.specs.Tickets.{every};
