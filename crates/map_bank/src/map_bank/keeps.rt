@@ -1,4 +1,4 @@
-ghost use Rattle.std.specs.Prelude.{◌≡◌, ◌+◌, ◌*◌, ◌<◌, ◌≤◌, false, [], IfOk, IfErr, vec_len};
+ghost use Rattle.std.specs.Prelude.{◌≡◌, ◌<◌, ◌≤◌, [], IfOk, IfErr, vec_len};
 ghost use Rattle.bank.specs.Calls.{founded};
 ghost use Rattle.ticket.specs.Tickets.{ticket_of, blank};
 ghost use Rattle.map_bank.specs.Rows.{Tidy};
