@@ -1,6 +1,6 @@
 -- What the row that Next or Split makes keeps, by the bank that it is made of.
 -- Assumes nothing.
-use Rattle.std.specs.Prelude.{◌≡◌, ℕ, ◌<◌, ◌≤◌, Bool, true, false, List, [], map, length, Some, vec_len, FitsSigned, slice_index_or}
+use Rattle.std.specs.Prelude.{◌≡◌, ℕ, ◌<◌, Bool, true, false, List, [], map, length, Some, vec_len, FitsSigned, slice_index_or}
 use Rattle.std.proofs.Common.{sym, ◌∙◌, ap, subst, to_z, of_z}
 use Rattle.std.proofs.Math.Path.{fun_ext}
 use Rattle.std.proofs.lemmas.List.{length-map}
@@ -17,7 +17,7 @@ use Rattle.map_bank.specs.MapBanks.{rows_in, row_kept, capacity_of}
 use Rattle.map_bank.specs.Numbers.{set_of}
 use Rattle.map_bank.specs.Rows.{Tidy}
 use Rattle.map_bank.proofs.CallLaws.{row_there, set_there}
-use Rattle.map_bank.proofs.PlaceLaws.{each_tidy, held_some}
+use Rattle.map_bank.proofs.PlaceLaws.{held_some}
 use Rattle.map_bank.proofs.TicketLaws.{outcomes_lawful, sensed_lawful, speaks_wider, literal_fits, successor_some}
 
 abbrev pub conditions_of : MapBank → ℕ
@@ -41,17 +41,18 @@ pub record PartMade (b : MapBank) (set step : ℕ) (so : Bool) (l : Literal) (pa
   pub is : set_of (conditions_of b) part ≡ side (conditions_of b) l so (set_of (conditions_of b) (slice_index_or (rows_in b) set []))
   pub tidy : Tidy (conditions_of b) part
 
-pub part_made : (b : MapBank) (set step : ℕ) (so : Bool) (l : Literal) (row part : List ℕ) → Some row ≡ row_kept set (rows_in b) → Some l ≡ sensed_of (step_at (ticket_of b.ticket).steps step) →
-    ((n : ℕ) → n ≤ 10 → speaks_within n (to_z w16 (of_z w16 l)) ≡ true → ((w : World n) → set_of n part w ≡ side n (to_z w16 (of_z w16 l)) so (set_of n row) w) × (Tidy n row → Tidy n part)) → PartMade b set step so l part
-part_made b set step so l row part er el told =
+pub part_made : (b : MapBank) (set step k : ℕ) (so : Bool) (l : Literal) (row part : List ℕ) → Some row ≡ row_kept set (rows_in b) → Some l ≡ sensed_of (step_at (ticket_of b.ticket).steps step) → k ≡ conditions_of b →
+    ((w : World k) → set_of k part w ≡ side k (to_z w16 (of_z w16 l)) so (set_of k row) w) × Tidy k part → PartMade b set step so l part
+part_made b set step k so l row part er el ek told =
     let n = conditions_of b in
     let p = row_there set (rows_in b) row er in
-    let here = subst (λ (x : Literal). (k : ℕ) → k ≤ 10 → speaks_within k x ≡ true → ((w : World k) → set_of k part w ≡ side k x so (set_of k row) w) × (Tidy k row → Tidy k part)) (sensed_same b step l el) told n b.small (sensed_speaks b step l el) in
+    let same = subst (λ (x : Literal). ((w : World k) → set_of k part w ≡ side k x so (set_of k row) w) × Tidy k part) (sensed_same b step l el) told in
+    let here = subst (λ (j : ℕ). ((w : World j) → set_of j part w ≡ side j l so (set_of j row) w) × Tidy j part) ek same in
     record {
       there = p.0;
       sensed = sym el;
       is = fun_ext here.0 ∙ ap (λ (r : List ℕ). side n l so (set_of n r)) p.1;
-      tidy = here.1 (subst (λ (r : List ℕ). Tidy n r) (sym p.1) (each_tidy n (rows_in b) b.tidy set));
+      tidy = here.1;
     }
 
 -- ## Next
@@ -63,11 +64,10 @@ pub record NextMade (b : MapBank) (set step : ℕ) (os : List Outcome) (made : L
   pub tidy : Tidy (conditions_of b) made
   pub some : none_in (conditions_of b) (set_of (conditions_of b) made) ≡ false
 
-pub lawful_here : (b : MapBank) (step k : ℕ) (os given : List Outcome) → Some os ≡ outcomes_of (step_at (ticket_of b.ticket).steps step) → k ≡ conditions_of b → given ≡ os → (k ≤ 10) × (every (lawful_outcome k) given ≡ true)
-lawful_here b step k os given eo ek eg = (
-  subst (λ (j : ℕ). j ≤ 10) (sym ek) b.small,
-  subst (λ (j : ℕ). every (lawful_outcome j) given ≡ true) (sym ek) (subst (λ (o : List Outcome). every (lawful_outcome (conditions_of b)) o ≡ true) (sym eg) (outcomes_lawful (ticket_of b.ticket) step os b.ticket.lawful (sym eo)).1),
-)
+pub lawful_here : (b : MapBank) (step k : ℕ) (os given : List Outcome) → Some os ≡ outcomes_of (step_at (ticket_of b.ticket).steps step) → k ≡ conditions_of b → given ≡ os → every (lawful_outcome k) given ≡ true
+lawful_here b step k os given eo ek eg =
+    subst (λ (j : ℕ). every (lawful_outcome j) given ≡ true) (sym ek)
+    (subst (λ (o : List Outcome). every (lawful_outcome (conditions_of b)) o ≡ true) (sym eg) (outcomes_lawful (ticket_of b.ticket) step os b.ticket.lawful (sym eo)).1)
 
 pub next_made_so : (b : MapBank) (set step k : ℕ) (os given : List Outcome) (row made : List ℕ) → Some row ≡ row_kept set (rows_in b) → Some os ≡ outcomes_of (step_at (ticket_of b.ticket).steps step) → k ≡ conditions_of b → given ≡ os →
     ((v : World k) → set_of k made v ≡ successor k given (set_of k row) v) × Tidy k made → NextMade b set step os made

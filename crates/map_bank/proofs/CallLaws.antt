@@ -1,21 +1,21 @@
 -- What each call of a map bank answers and leaves, by its rows.
 -- Assumes nothing.
-use Rattle.std.specs.Prelude.{◌≡◌, ℕ, suc, ◌<◌, ◌≤◌, Bool, true, false, cond, not, ◌&&◌, ltb, leb, List, [], ◌∷◌, ◌++◌, length, get_or, take, Some, None, Ok, Err, Option, Result, ◌==◌, ◌≢◌, nat_eq, nat_le, nat_lt, slice_index_or, refl}
+use Rattle.std.specs.Prelude.{◌≡◌, ℕ, suc, ◌<◌, ◌≤◌, Bool, true, false, cond, not, ◌&&◌, ltb, leb, List, [], ◌∷◌, ◌++◌, length, get_or, take, Some, None, Ok, Err, Option, Result, nat_le, nat_lt, slice_index_or}
 use Rattle.std.proofs.Common.{sym, ◌∙◌, ap, subst, inl, inr, arith}
 use Rattle.std.proofs.Math.Path.{fun_ext}
-use Rattle.std.proofs.lemmas.Bool.{cond-false, cond-true, cases_Bool, lt-ltb, le-ltb, ltb-true, ltb-false, ne_eqb, lt-leb, le-leb}
+use Rattle.std.proofs.lemmas.Bool.{cond-false, cond-true, cases_Bool, lt-ltb, le-ltb, ltb-true, ltb-false, lt-leb, le-leb}
 use Rattle.std.proofs.lemmas.List.{get_or-map, take-map, map_push, length-map}
-use Rattle.worlds.specs.Worlds.{World, Literal, speaks_within}
+use Rattle.worlds.specs.Worlds.{World, Literal}
 use Rattle.worlds.specs.Steps.{Outcome}
-use Rattle.worlds.specs.Sets.{Worlds, none_in, all_meet, successor, side, same_set}
-use Rattle.worlds.specs.Tickets.{Ticket, every, starts, meets_some, step_at}
+use Rattle.worlds.specs.Sets.{Worlds, none_in, successor, side, same_set}
+use Rattle.worlds.specs.Tickets.{Ticket, starts, meets_some, step_at}
 use Rattle.bank.specs.declared.fault.BankFault.{BankFault}
-use Rattle.bank.specs.declared.fault.BankFault.TheVariants.{Conditions, NoSet, Full, EmptySide, WrongStep}
+use Rattle.bank.specs.declared.fault.BankFault.TheVariants.{NoSet, Full, EmptySide, WrongStep}
 use Rattle.bank.specs.Meaning as bank
 use Rattle.bank.specs.Meaning.{Meaning}
-use Rattle.bank.specs.Calls.{unless, left_by, then_fault, refuse_if, with_some, set_at, place_of, is_held, outcomes_of, sensed_of, holds_answer, put_fault, next_set, next_number, next_made, next_answer, next_leaves, side_set, split_number, split_made, split_answer, split_leaves, shorten_fault, shortened, found_fault, founded}
+use Rattle.bank.specs.Calls.{unless, left_by, then_fault, refuse_if, with_some, set_at, place_of, is_held, outcomes_of, sensed_of, put_fault, next_set, next_number, next_made, next_answer, next_leaves, side_set, split_number, split_made, split_answer, split_leaves, shorten_fault, shortened, founded}
 use Rattle.map_bank.specs.Canon.{row_of}
-use Rattle.map_bank.specs.MapBanks.{meaning_with, map_nature, made_by, side_by, row_kept, row_answer, pushed_to, row_leaves}
+use Rattle.map_bank.specs.MapBanks.{meaning_with, map_nature, made_by, side_by, row_kept, place_kept, row_answer, pushed_to, row_leaves}
 use Rattle.map_bank.specs.Numbers.{set_of}
 
 -- ## The row of a number
@@ -26,19 +26,6 @@ row_there i rows row e =
       | inl h ↦ let f = cond-true (nat_lt i (length rows)) (Some (slice_index_or rows i [])) None h in let is : row ≡ get_or rows i [] = cc in (ltb-true _ _ h, is)
       | inr h ↦ let f = cond-false (nat_lt i (length rows)) (Some (slice_index_or rows i [])) None h in let z : ◌≡◌ {A = ℕ} 0 1 = cc in absurd (omega arith)
     ]
-
-pub row_absent : (i : ℕ) (rows : List (List ℕ)) → None ≡ row_kept i rows → length rows ≤ i
-row_absent i rows e =
-    elim (cases_Bool (nat_lt i (length rows))) [
-      | inl h ↦ let f = cond-true (nat_lt i (length rows)) (Some (slice_index_or rows i [])) None h in let z : ◌≡◌ {A = ℕ} 0 1 = cc in absurd (omega arith)
-      | inr h ↦ ltb-false _ _ h
-    ]
-
-pub kept_there : (i : ℕ) (rows : List (List ℕ)) (row : List ℕ) → i < length rows → row ≡ slice_index_or rows i [] → Some row ≡ row_kept i rows
-kept_there i rows row h is = ap Some is ∙ sym (cond-true (nat_lt i (length rows)) (Some (slice_index_or rows i [])) None (lt-ltb _ _ h))
-
-pub kept_absent : (i : ℕ) (rows : List (List ℕ)) → length rows ≤ i → None ≡ row_kept i rows
-kept_absent i rows h = sym (cond-false (nat_lt i (length rows)) (Some (slice_index_or rows i [])) None (le-ltb _ _ h))
 
 -- ## The place of a set is at most the length of the list
 
@@ -61,9 +48,6 @@ module _ (t : Ticket) (rows : List (List ℕ)) (cap : ℕ) where
   long : length m.held ≡ length rows
   long = length-map rows (set_of n)
 
-  gone : (set : ℕ) → length rows ≤ set → nat_le (length m.held) set ≡ true
-  gone set h = le-leb (length m.held) set (subst (λ (k : ℕ). k ≤ set) (sym long) h)
-
   there : (set : ℕ) → set < length rows → nat_le (length m.held) set ≡ false
   there set h = lt-leb (length m.held) set (subst (λ (k : ℕ). set < k) (sym long) h)
 
@@ -72,24 +56,6 @@ module _ (t : Ticket) (rows : List (List ℕ)) (cap : ℕ) where
   set_there set h = get_or-map (set_of n) rows set [] (λ _. false) h
 
   -- ## Holds
-
-  abbrev holds_by : List Literal → ℕ → Bool → Bool → Result Bool BankFault
-  holds_by ls set b every_one = unless (then_fault (refuse_if b NoSet) (refuse_if (not every_one) Conditions)) (all_meet n (set_at n m.held set) ls)
-
-  pub holds_no_set : (set : ℕ) (ls : List Literal) → length rows ≤ set → Err NoSet ≡ holds_answer set ls (meaning_with t rows cap)
-  holds_no_set set ls h = ap (λ (b : Bool). holds_by ls set b (every (speaks_within n) ls)) (sym (gone set h))
-
-  pub holds_refused : (set : ℕ) (ls : List Literal) → set < length rows → every (speaks_within t.conditions) ls ≡ false → Err Conditions ≡ holds_answer set ls (meaning_with t rows cap)
-  holds_refused set ls h e =
-      ap (λ (b : Bool). holds_by ls set false b) (sym e)
-      ∙ ap (λ (b : Bool). holds_by ls set b (every (speaks_within n) ls)) (sym (there set h))
-
-  pub holds_told : (set : ℕ) (ls : List Literal) (row : List ℕ) → set < length rows → row ≡ slice_index_or rows set [] → every (speaks_within t.conditions) ls ≡ true → Ok (all_meet t.conditions (set_of t.conditions row) ls) ≡ holds_answer set ls (meaning_with t rows cap)
-  holds_told set ls row h is e =
-      ap (λ (r : List ℕ). Ok (all_meet n (set_of n r) ls)) is
-      ∙ ap (λ (s : Worlds n). Ok (all_meet n s ls)) (sym (set_there set h))
-      ∙ ap (λ (b : Bool). holds_by ls set false b) (sym e)
-      ∙ ap (λ (b : Bool). holds_by ls set b (every (speaks_within n) ls)) (sym (there set h))
 
   -- ## A row that is put
 
@@ -102,34 +68,33 @@ module _ (t : Ticket) (rows : List (List ℕ)) (cap : ℕ) where
   abbrev place : List ℕ → ℕ
   place row = place_of n m.held (set_of n row)
 
-  pub put_full : (row : List ℕ) → place_of t.conditions (meaning_with t rows cap).held (set_of t.conditions row) ≡ length rows → cap ≤ length rows → (Err Full ≡ row_answer (meaning_with t rows cap) row) × (meaning_with t rows cap ≡ row_leaves (meaning_with t rows cap) row)
+  -- a row's set that is not held is new, and so its place is behind the held ones
+  absent_new : (row : List ℕ) → None ≡ place_kept m row → is_held n m.held (set_of n row) ≡ false
+  absent_new row e =
+      elim (cases_Bool (is_held n m.held (set_of n row))) [
+        | inl h ↦ let f = cond-true (is_held n m.held (set_of n row)) (Some (place row)) None h in let z : ◌≡◌ {A = ℕ} 0 1 = cc in absurd (omega arith)
+        | inr h ↦ h
+      ]
+
+  pub absent_place : (row : List ℕ) → None ≡ place_kept (meaning_with t rows cap) row → place_of t.conditions (meaning_with t rows cap).held (set_of t.conditions row) ≡ length (meaning_with t rows cap).held
+  absent_place row e =
+      let past : length m.held ≤ place row = ltb-false (place row) (length m.held) (absent_new row e) in
+      omega (arith, place_le n m.held (set_of n row))
+
+  pub put_full : (row : List ℕ) → None ≡ place_kept (meaning_with t rows cap) row → cap ≤ length rows → (Err Full ≡ row_answer (meaning_with t rows cap) row) × (meaning_with t rows cap ≡ row_leaves (meaning_with t rows cap) row)
   put_full row e h =
       let full : leb cap (length m.held) ≡ true = le-leb cap (length m.held) (subst (λ (k : ℕ). cap ≤ k) (sym long) h) in
-      let new : is_held n m.held (set_of n row) ≡ false = le-ltb (place row) (length m.held) (omega (arith, long)) in (
+      let new = absent_new row e in (
         ap (λ (b : Bool). unless (fault_by b false) (place row)) (sym full) ∙ ap (λ (b : Bool). unless (fault_by (nat_le cap (length m.held)) b) (place row)) (sym new),
         ap (λ (b : Bool). left_as row b false) (sym full) ∙ ap (λ (b : Bool). left_as row (nat_le cap (length m.held)) b) (sym new),
       )
 
-  pub put_new : (row : List ℕ) → place_of t.conditions (meaning_with t rows cap).held (set_of t.conditions row) ≡ length rows → length rows < cap → (Ok (place_of t.conditions (meaning_with t rows cap).held (set_of t.conditions row)) ≡ row_answer (meaning_with t rows cap) row) × (pushed_to (meaning_with t rows cap) row ≡ row_leaves (meaning_with t rows cap) row)
+  pub put_new : (row : List ℕ) → None ≡ place_kept (meaning_with t rows cap) row → length rows < cap → (Ok (length rows) ≡ row_answer (meaning_with t rows cap) row) × (pushed_to (meaning_with t rows cap) row ≡ row_leaves (meaning_with t rows cap) row)
   put_new row e h =
       let free : leb cap (length m.held) ≡ false = lt-leb cap (length m.held) (subst (λ (k : ℕ). k < cap) (sym long) h) in
-      let new : is_held n m.held (set_of n row) ≡ false = le-ltb (place row) (length m.held) (omega (arith, long)) in (
-        ap (λ (b : Bool). unless (fault_by b false) (place row)) (sym free) ∙ ap (λ (b : Bool). unless (fault_by (nat_le cap (length m.held)) b) (place row)) (sym new),
+      let new = absent_new row e in (
+        ap Ok (sym (absent_place row e ∙ long)) ∙ ap (λ (b : Bool). unless (fault_by b false) (place row)) (sym free) ∙ ap (λ (b : Bool). unless (fault_by (nat_le cap (length m.held)) b) (place row)) (sym new),
         ap (λ (b : Bool). left_as row b false) (sym free) ∙ ap (λ (b : Bool). left_as row (nat_le cap (length m.held)) b) (sym new),
-      )
-
-  and_never : (b : Bool) → (b && false) ≡ false
-  and_never true = refl
-  and_never false = refl
-
-  pub put_held : (row : List ℕ) → (place_of t.conditions (meaning_with t rows cap).held (set_of t.conditions row) ≢ length rows) → (Ok (place_of t.conditions (meaning_with t rows cap).held (set_of t.conditions row)) ≡ row_answer (meaning_with t rows cap) row) × (meaning_with t rows cap ≡ row_leaves (meaning_with t rows cap) row)
-  put_held row e =
-      let le = place_le n m.held (set_of n row) in
-      let below : place row < length m.held = omega (arith, long, le, e) in
-      let old : is_held n m.held (set_of n row) ≡ true = lt-ltb (place row) (length m.held) below in
-      let full = leb cap (length m.held) in (
-        ap (λ (b : Bool). unless (refuse_if b Full) (place row)) (sym (and_never full)) ∙ ap (λ (b : Bool). unless (fault_by full b) (place row)) (sym old),
-        ap (λ (b : Bool). left_by (refuse_if b Full) m m) (sym (and_never full)) ∙ ap (λ (b : Bool). left_as row full b) (sym old),
       )
 
   -- what putting a set by a call leaves, where the call keeps it as a row
@@ -155,16 +120,6 @@ module _ (t : Ticket) (rows : List (List ℕ)) (cap : ℕ) where
   abbrev outcomes : ℕ → Option (List Outcome)
   outcomes step = outcomes_of (step_at t.steps step)
 
-  pub next_no_set : (set step : ℕ) → length rows ≤ set → (Err NoSet ≡ next_answer map_nature set step (meaning_with t rows cap)) × (meaning_with t rows cap ≡ next_leaves map_nature set step (meaning_with t rows cap))
-  next_no_set set step h =
-      (ap (λ (b : Bool). next_told set step b (outcomes step)) (sym (gone set h)), ap (λ (b : Bool). next_left set step b (outcomes step)) (sym (gone set h)))
-
-  pub next_no_step : (set step : ℕ) → set < length rows → outcomes_of (step_at t.steps step) ≡ None → (Err WrongStep ≡ next_answer map_nature set step (meaning_with t rows cap)) × (meaning_with t rows cap ≡ next_leaves map_nature set step (meaning_with t rows cap))
-  next_no_step set step h e = (
-    ap (λ (o : Option (List Outcome)). next_told set step false o) (sym e) ∙ ap (λ (b : Bool). next_told set step b (outcomes step)) (sym (there set h)),
-    ap (λ (o : Option (List Outcome)). next_left set step false o) (sym e) ∙ ap (λ (b : Bool). next_left set step b (outcomes step)) (sym (there set h)),
-  )
-
   pub next_goes : (set step : ℕ) (os : List Outcome) (row : List ℕ) → set < length rows → outcomes_of (step_at t.steps step) ≡ Some os → row ≡ row_of t.conditions (set_of t.conditions row) → set_of t.conditions row ≡ successor t.conditions os (set_of t.conditions (slice_index_or rows set [])) → (row_answer (meaning_with t rows cap) row ≡ next_answer map_nature set step (meaning_with t rows cap)) × (row_leaves (meaning_with t rows cap) row ≡ next_leaves map_nature set step (meaning_with t rows cap))
   next_goes set step os row h e canon is =
       let set_is : set_of n row ≡ next_set os set m = is ∙ ap (λ (s : Worlds n). successor n os s) (sym (set_there set h)) in
@@ -189,16 +144,6 @@ module _ (t : Ticket) (rows : List (List ℕ)) (cap : ℕ) where
 
   abbrev sensed : ℕ → Option Literal
   sensed step = sensed_of (step_at t.steps step)
-
-  pub split_no_set : (set step : ℕ) (so : Bool) → length rows ≤ set → (Err NoSet ≡ split_answer map_nature set step so (meaning_with t rows cap)) × (meaning_with t rows cap ≡ split_leaves map_nature set step so (meaning_with t rows cap))
-  split_no_set set step so h =
-      (ap (λ (b : Bool). split_told set step so b (sensed step)) (sym (gone set h)), ap (λ (b : Bool). split_left set step so b (sensed step)) (sym (gone set h)))
-
-  pub split_no_step : (set step : ℕ) (so : Bool) → set < length rows → sensed_of (step_at t.steps step) ≡ None → (Err WrongStep ≡ split_answer map_nature set step so (meaning_with t rows cap)) × (meaning_with t rows cap ≡ split_leaves map_nature set step so (meaning_with t rows cap))
-  split_no_step set step so h e = (
-    ap (λ (o : Option Literal). split_told set step so false o) (sym e) ∙ ap (λ (b : Bool). split_told set step so b (sensed step)) (sym (there set h)),
-    ap (λ (o : Option Literal). split_left set step so false o) (sym e) ∙ ap (λ (b : Bool). split_left set step so b (sensed step)) (sym (there set h)),
-  )
 
   -- the side's set, and what its emptiness decides
   abbrev side_told : Worlds n → Bool → Result ℕ BankFault
@@ -266,11 +211,3 @@ pub founded_is : (t : Ticket) (m : Meaning) (row : List ℕ) → set_of t.condit
 founded_is t m row is canon =
     ap (λ (s : Worlds t.conditions). record { ticket = t; held = s ∷ []; kept = row ∷ []; capacity = m.capacity }) is
     ∙ ap (λ (r : List ℕ). record { ticket = t; held = starts t ∷ []; kept = r ∷ []; capacity = m.capacity }) (canon ∙ ap (row_of t.conditions) is)
-
-pub found_done : (t : Ticket) (m : Meaning) → t.conditions ≤ 10 → 0 < m.capacity → (Ok (tt {0}) ≡ unless (found_fault map_nature t m) (tt {0})) × (founded map_nature t m ≡ left_by (found_fault map_nature t m) m (founded map_nature t m))
-found_done t m few some =
-    let within : ltb 10 t.conditions ≡ false = le-ltb 10 t.conditions few in
-    let room : nat_eq m.capacity 0 ≡ false = ne_eqb m.capacity 0 (λ e. omega arith) in
-    let fault : Bool → Bool → Option BankFault = λ a b. then_fault (refuse_if a Conditions) (refuse_if b Full) in
-    let none : None ≡ found_fault map_nature t m = ap (fault false) (sym room) ∙ ap (λ (a : Bool). fault a (m.capacity == 0)) (sym within) in
-    (ap (λ (f : Option BankFault). unless f (tt {0})) none, ap (λ (f : Option BankFault). left_by f m (founded map_nature t m)) none)

@@ -14,7 +14,7 @@ use Rattle.map_bank.specs.Numbers.{world_of, in_words, set_of}
 use Rattle.map_bank.specs.Rows.{Tidy}
 use Rattle.map_bank.proofs.BitLaws.{bit_lowest, bit_above, same_bits}
 use Rattle.map_bank.proofs.NumberLaws.{number_of_world, lowest_digit, digits_above, digit_below}
-use Rattle.map_bank.proofs.TruthTable.{same_value_is}
+use Rattle.map_bank.proofs.SameLaws.{same_value_is}
 
 bit_by : (m : ℕ) (test : ℕ → Bool) (i : ℕ) → i < m → bit (word_by m test) i ≡ test i
 unfolding word_by
@@ -48,7 +48,8 @@ at_by (suc count) test (suc j) h b hb =
 abbrev has_number : (n : ℕ) → List ℕ → ℕ → Bool
 has_number n row k = nat_lt k (2 ^ n) && set_of n row (world_of n k)
 
-in_row : (row : List ℕ) (j b : ℕ) → b < 64 → in_words row (64 * j + b) ≡ bit (slice_index row j) b
+-- a bit of a word, as the row has it under the number of its world
+pub in_row : (row : List ℕ) (j b : ℕ) → b < 64 → in_words row (64 * j + b) ≡ bit (slice_index row j) b
 in_row row j b hb =
     let q : (64 * j + b) / 64 ≡ j = omega arith in
     let r : (64 * j + b) % 64 ≡ b = omega arith in

@@ -1,8 +1,10 @@
 -- Rows that lie one after another: where each lies, and what stays where one is added or some are cut.
 -- Assumes nothing.
-use Rattle.std.specs.Prelude.{◌≡◌, ℕ, zero, suc, ◌+◌, ◌*◌, ◌<◌, ◌≤◌, List, [], ◌∷◌, ◌++◌, length, take, drop, slice_index_or, refl}
-use Rattle.std.proofs.Common.{sym, ◌∙◌, ap, subst, append_assoc, zero-add, suc-add, add-one, arith, length-drop, length-take-le, drop-drop}
+use Rattle.std.specs.Prelude.{◌≡◌, ℕ, zero, suc, ◌+◌, ◌*◌, ◌/◌, ◌<◌, ◌≤◌, List, [], ◌∷◌, ◌++◌, length, take, drop, slice_index_or, refl}
+use Rattle.std.proofs.Common.{sym, ◌∙◌, ap, subst, append_assoc, add-one, arith, length-drop, length-take-le, drop-drop}
+use Rattle.std.proofs.Math.Seq.{take-add}
 use Rattle.std.proofs.lemmas.List.{take_at, drop_at}
+use Rattle.std.specs.Simd.{first_chunks}
 use Rattle.map_bank.specs.Held.{rows_of}
 
 -- row i lies from word 16i on
@@ -20,14 +22,9 @@ rows_shorter zero count words h = refl
 rows_shorter (suc fewer) zero words h = absurd (omega arith)
 rows_shorter (suc fewer) (suc count) words h = ap (λ (rows : List (List ℕ)). take 16 words ∷ rows) (rows_shorter fewer count (drop 16 words) (omega arith))
 
-take_none : {X : Type 0} (m : ℕ) → take {A = X} m [] ≡ []
-take_none zero = refl
-take_none (suc m) = refl
-
-take_further : {X : Type 0} (k m : ℕ) (xs : List X) → take (k + m) xs ≡ take k xs ++ take m (drop k xs)
-take_further zero m xs = ap (λ (j : ℕ). take j xs) (zero-add m)
-take_further (suc k) m [] = take_none (suc k + m) ∙ sym (take_none m)
-take_further {X} (suc k) m (x ∷ xs) = ap (λ (j : ℕ). take j (x ∷ xs)) (suc-add k m) ∙ ap (λ (ys : List X). x ∷ ys) (take_further k m xs)
+-- the first of all rows that words have room for, where they are lent as rows
+pub rows_lent : (count : ℕ) (words : List ℕ) (rows : List (List ℕ)) → rows ≡ first_chunks 16 (length words / 16) words → 16 * count ≤ length words → take count rows ≡ rows_of count words
+rows_lent count words rows all room = ap (take count) all ∙ rows_shorter count (length words / 16) words (omega arith)
 
 -- a row written behind the first rows is the next of them
 pub rows_longer : (count : ℕ) (words row rest : List ℕ) → length row ≡ 16 → 16 * count ≤ length words → rows_of (suc count) (take (16 * count) words ++ (row ++ rest)) ≡ rows_of count words ++ row ∷ []
@@ -37,7 +34,7 @@ rows_longer (suc count) words row rest long h =
     let front : length (take 16 words) ≡ 16 = length-take-le 16 words (omega arith) in
     let tail : List ℕ = take (16 * count) (drop 16 words) ++ (row ++ rest) in
     let split : take (16 * suc count) words ++ (row ++ rest) ≡ take 16 words ++ tail =
-    ap (λ (k : ℕ). take k words ++ (row ++ rest)) further ∙ ap (λ (l : List ℕ). l ++ (row ++ rest)) (take_further 16 (16 * count) words)
+    ap (λ (k : ℕ). take k words ++ (row ++ rest)) further ∙ ap (λ (l : List ℕ). l ++ (row ++ rest)) (take-add 16 (16 * count) words)
     ∙ append_assoc (take 16 words) (take (16 * count) (drop 16 words)) (row ++ rest) in
     let left : 16 * count ≤ length (drop 16 words) = subst (λ (k : ℕ). 16 * count ≤ k) (sym (length-drop 16 words)) (omega arith) in
     ap (rows_of (suc (suc count))) split

@@ -5,6 +5,7 @@ pub mod CanonLaws
 pub mod HeldLaws
 pub mod NumberLaws
 pub mod RowLaws
+pub mod SameLaws
 pub mod SuccessorLaws
 pub mod PlaceLaws
 pub mod StepLaws

@@ -1,58 +1,36 @@
 -- Where a row's set stands among the sets of rows, and which lists of sets stay pairwise different.
 -- Assumes nothing.
-use Rattle.std.specs.Prelude.{◌≡◌, ℕ, zero, suc, ◌+◌, ◌-◌, ◌*◌, ◌^◌, ◌<◌, ◌≤◌, Bool, true, false, not, ◌&&◌, List, [], ◌∷◌, ◌++◌, map, length, get_or, take, drop, ◌≢◌, slice_index, slice_index_or, refl}
-use Rattle.std.proofs.Common.{sym, ◌∙◌, ap, subst, inl, inr, arith, length-drop, length-take}
-use Rattle.std.proofs.lemmas.Bool.{cond-false, cond-true, both_ways, and_parts, and_from, not_from_false, not-true, cases_lt}
-use Rattle.std.proofs.lemmas.List.{at_drop_more, at_drop_all, get_or-map, get_or-take, get_or-drop, get_or_past, length-take-le, length-map}
-use Rattle.worlds.specs.Worlds.{World, some_world}
-use Rattle.worlds.specs.Sets.{Worlds, none_in, same_set, same_value}
-use Rattle.worlds.proofs.Compatible.{the_world, cannot_pass}
+use Rattle.std.specs.Prelude.{◌≡◌, ℕ, zero, suc, ◌+◌, ◌-◌, ◌*◌, ◌^◌, ◌<◌, ◌≤◌, true, false, cond, not, ◌&&◌, Option, Some, None, List, [], ◌∷◌, ◌++◌, map, length, take, drop, ◌≢◌, slice_index, slice_index_or, refl}
+use Rattle.std.proofs.Common.{sym, ◌∙◌, ap, subst, inl, inr, add-one, arith, length-drop, length-take}
+use Rattle.std.proofs.lemmas.Bool.{cond-false, cond-true, and_parts, and_from, not_from_false, not-true, cases_lt, lt-ltb, le-ltb}
+use Rattle.std.proofs.lemmas.Iterator.{index_from_first}
+use Rattle.std.specs.List.{AllWithin, HoldsAt}
+use Rattle.std.specs.Option.{MatchOption, unwrap_or}
+use Rattle.std.proofs.lemmas.List.{get_or-take, get_or-drop, get_or_past, length-take-le, length-map}
+use Rattle.worlds.specs.Sets.{Worlds, none_in, same_set}
+use Rattle.worlds.proofs.Compatible.{cannot_pass}
 use Rattle.bank.specs.Meaning.{all_different, differs_from}
-use Rattle.bank.specs.Calls.{place_of, set_at}
+use Rattle.bank.specs.Calls.{place_of, is_held, set_at}
 use Rattle.map_bank.specs.Held.{rows_of, AllTidy, length_rows}
 use Rattle.map_bank.specs.Numbers.{set_of, in_words}
 use Rattle.map_bank.specs.Rows.{Tidy}
 use Rattle.map_bank.proofs.BitLaws.{bit_zero}
 use Rattle.map_bank.proofs.CanonLaws.{rows_same}
 use Rattle.map_bank.proofs.HeldLaws.{row_is}
+use Rattle.map_bank.proofs.SameLaws.{same_set_self}
 
--- ## Sets
+-- ## Tidy rows
 
-no_world : (n : ℕ) (test : World n → Bool) → ((w : World n) → test w ≡ false) → some_world n test ≡ false
-no_world n test never = cannot_pass (some_world n test) (λ some. let found = the_world n test some in both_ways _ (never found.0) found.1)
+pub tidy_none : (n : ℕ) → Tidy n []
+tidy_none n k high low = bit_zero _
 
-value_self : (b : Bool) → not (same_value b b) ≡ false
-value_self true = refl
-value_self false = refl
+pub each_tidy : (n : ℕ) (rows : List (List ℕ)) → AllTidy n rows → (i : ℕ) → Tidy n (slice_index_or rows i [])
+each_tidy n rows all i k high low =
+    let back : 2 ^ n + (k - 2 ^ n) ≡ k = omega arith in
+    subst (λ (j : ℕ). in_words (slice_index_or rows i []) j ≡ false) back (all i (k - 2 ^ n) (omega arith))
 
--- every set is the same as itself
-pub same_set_self : (n : ℕ) (s : Worlds n) → same_set n s s ≡ true
-same_set_self n s = ap not (no_world n (λ w. not (same_value (s w) (s w))) (λ w. value_self (s w)))
-
--- ## The place of a set
-
-module _ (n : ℕ) (rows : List (List ℕ)) (s : Worlds n) where
-  abbrev sets : List (Worlds n)
-  sets = map (set_of n) rows
-
-  at_row : (i : ℕ) → i < length rows → slice_index_or sets i (λ _. false) ≡ set_of n (slice_index_or rows i [])
-  at_row i h = get_or-map (set_of n) rows i [] (λ _. false) h
-
-  within : (i : ℕ) → i < length rows → i < length sets
-  within i h = subst (λ (k : ℕ). i < k) (sym (length-map rows (set_of n))) h
-
-  pub place_step : (i : ℕ) → i < length rows → same_set n (set_of n (slice_index_or rows i [])) s ≡ false → place_of n (drop i (map (set_of n) rows)) s ≡ suc (place_of n (drop (i + 1) (map (set_of n) rows)) s)
-  place_step i h other =
-      at_drop_more (λ (held : List (Worlds n)). place_of n held s) sets i (λ _. false) (within i h)
-      ∙ cond-false (same_set n (slice_index_or sets i (λ _. false)) s) 0 (suc (place_of n (drop (i + 1) sets) s)) (ap (λ (t : Worlds n). same_set n t s) (at_row i h) ∙ other)
-
-  pub place_here : (i : ℕ) → i < length rows → same_set n (set_of n (slice_index_or rows i [])) s ≡ true → place_of n (drop i (map (set_of n) rows)) s ≡ 0
-  place_here i h same =
-      at_drop_more (λ (held : List (Worlds n)). place_of n held s) sets i (λ _. false) (within i h)
-      ∙ cond-true (same_set n (slice_index_or sets i (λ _. false)) s) 0 (suc (place_of n (drop (i + 1) sets) s)) (ap (λ (t : Worlds n). same_set n t s) (at_row i h) ∙ same)
-
-  pub place_end : (i : ℕ) → length rows ≤ i → place_of n (drop i (map (set_of n) rows)) s ≡ 0
-  place_end i h = at_drop_all (λ (held : List (Worlds n)). place_of n held s) sets i (subst (λ (k : ℕ). k ≤ i) (sym (length-map rows (set_of n))) h)
+pub all_tidy : (n : ℕ) (rows : List (List ℕ)) → ((i : ℕ) → Tidy n (slice_index_or rows i [])) → AllTidy n rows
+all_tidy n rows each i k low = each i (2 ^ n + k) (omega arith) (omega arith)
 
 -- ## A row among words
 
@@ -67,38 +45,68 @@ row_fits words fits from i =
     few : length (take 16 (drop from words)) ≤ 16
     few = simp length-take (omega arith)
 
--- none of the first i rows has the set of a row
-abbrev pub Sought : ℕ → List ℕ → List ℕ → ℕ → Type 0
-Sought count words row i =
-    (n : ℕ) → n ≤ 10 → ((j : ℕ) → Tidy n (slice_index_or (rows_of count words) j [])) → Tidy n row →
-    place_of n (map (set_of n) (rows_of count words)) (set_of n row) ≡ i + place_of n (drop i (map (set_of n) (rows_of count words))) (set_of n row)
+-- what is known of a row among words
+record Kept (n : ℕ) (row : List ℕ) : Type 0 where
+  long : length row ≡ 16
+  fits : (i : ℕ) → slice_index row i < 2 ^ 64
+  tidy : Tidy n row
 
-module _ (count : ℕ) (words row : List ℕ) (room : 16 * count ≤ length words) (fits : (i : ℕ) → slice_index words i < 2 ^ 64) (row-fit : (i : ℕ) → slice_index row i < 2 ^ 64) (long : length row ≡ 16) where
-  abbrev SoughtFrom : ℕ → Type 0
-  SoughtFrom i = Sought count words row i
+kept_row : (n count : ℕ) (words : List ℕ) → 16 * count ≤ length words → ((i : ℕ) → slice_index words i < 2 ^ 64) → AllTidy n (rows_of count words) → (k : ℕ) (d : List ℕ) → k < count → Kept n (slice_index_or (rows_of count words) k d)
+kept_row n count words room fits tidy k d h =
+    let lies : slice_index_or (rows_of count words) k d ≡ take 16 (drop (16 * k) words) = row_is count words k d h in
+    let same : slice_index_or (rows_of count words) k [] ≡ take 16 (drop (16 * k) words) = row_is count words k [] h in
+    let space : 16 * k + 16 ≤ length words = omega arith in
+    let left : 16 ≤ length (drop (16 * k) words) = subst (λ (m : ℕ). 16 ≤ m) (sym (length-drop (16 * k) words)) (omega arith) in
+    subst (Kept n) (sym lies) (record {
+      long = length-take-le 16 (drop (16 * k) words) left;
+      fits = row_fits words fits (16 * k);
+      tidy = subst (λ (r : List ℕ). Tidy n r) same (each_tidy n (rows_of count words) tidy k);
+    })
 
-  pub sought_more : (i : ℕ) (here : List ℕ) → i < count → here ≡ take 16 (drop (16 * i) words) → (here ≢ row) → SoughtFrom i → SoughtFrom (i + 1)
-  sought_more i here h is other before n few tidy tidy-row =
-      let lies : get_or (rows_of count words) i [] ≡ take 16 (drop (16 * i) words) = row_is count words i [] h in
-      let space : 16 * i + 16 ≤ length words = omega arith in
-      let left : 16 ≤ length (drop (16 * i) words) = subst (λ (k : ℕ). 16 ≤ k) (sym (length-drop (16 * i) words)) (omega arith) in
-      let same-no : same_set n (set_of n (slice_index_or (rows_of count words) i [])) (set_of n row) ≡ false =
-      cannot_pass _ (λ same. other (is ∙ rows_same n (take 16 (drop (16 * i) words)) row (length-take-le 16 (drop (16 * i) words) left) long (row_fits words fits (16 * i)) row-fit
-      (subst (λ (r : List ℕ). Tidy n r) lies (tidy i)) tidy-row (subst (λ (r : List ℕ). same_set n (set_of n r) (set_of n row) ≡ true) lies same))) in
-      let step = place_step n (rows_of count words) (set_of n row) i (subst (λ (k : ℕ). i < k) (sym (length_rows count words)) h) same-no in
-      before n few tidy tidy-row ∙ ap (λ (k : ℕ). i + k) step ∙ (omega arith)
+-- the number of a row's set, by the place of the row
+module _ (n count : ℕ) (words row : List ℕ) (room : 16 * count ≤ length words) (fits : (i : ℕ) → slice_index words i < 2 ^ 64) (tidy : AllTidy n (rows_of count words)) (long : length row ≡ 16) (row-fits : (i : ℕ) → slice_index row i < 2 ^ 64) (row-tidy : Tidy n row) where
+  abbrev all_rows : List (List ℕ)
+  all_rows = rows_of count words
 
-  pub sought_here : (i : ℕ) (here : List ℕ) → i < count → here ≡ take 16 (drop (16 * i) words) → here ≡ row → SoughtFrom i → (n : ℕ) → n ≤ 10 → ((j : ℕ) → Tidy n (slice_index_or (rows_of count words) j [])) → Tidy n row → i ≡ place_of n (map (set_of n) (rows_of count words)) (set_of n row)
-  sought_here i here h is same before n few tidy tidy-row =
-      let lies : get_or (rows_of count words) i [] ≡ row = row_is count words i [] h ∙ sym is ∙ same in
-      let here-it-is = place_here n (rows_of count words) (set_of n row) i (subst (λ (k : ℕ). i < k) (sym (length_rows count words)) h)
-      (ap (λ (r : List ℕ). same_set n (set_of n r) (set_of n row)) lies ∙ same_set_self n (set_of n row)) in
-      sym (before n few tidy tidy-row ∙ ap (λ (k : ℕ). i + k) here-it-is ∙ omega arith)
+  abbrev Same : List ℕ → Type 0
+  Same a = same_set n (set_of n a) (set_of n row) ≡ true
 
-  pub sought_end : (i : ℕ) → i ≡ count → SoughtFrom i → (n : ℕ) → n ≤ 10 → ((j : ℕ) → Tidy n (slice_index_or (rows_of count words) j [])) → Tidy n row → count ≡ place_of n (map (set_of n) (rows_of count words)) (set_of n row)
-  sought_end i e before n few tidy tidy-row =
-      let at_end = place_end n (rows_of count words) (set_of n row) i (subst (λ (k : ℕ). k ≤ i) (sym (length_rows count words)) (omega arith)) in
-      sym (before n few tidy tidy-row ∙ ap (λ (k : ℕ). i + k) at_end ∙ omega arith)
+  abbrev Other : List ℕ → Type 0
+  Other a = same_set n (set_of n a) (set_of n row) ≡ false
+
+  same_row : (a : List ℕ) → a ≡ row → Same a
+  same_row a is = ap (λ (r : List ℕ). same_set n (set_of n r) (set_of n row)) is ∙ same_set_self n (set_of n row)
+
+  other_row : (a : List ℕ) → Kept n a → (a ≢ row) → Other a
+  other_row a kept differs =
+      cannot_pass _ (λ same. differs (rows_same n a row kept.long long kept.fits row-fits kept.tidy row-tidy same))
+
+  others : (low high : ℕ) → high ≤ count → AllWithin (λ (a : List ℕ). a ≢ row) all_rows low high → AllWithin Other all_rows low high
+  others low high h all k d from below =
+      other_row (slice_index_or all_rows k d) (kept_row n count words room fits tidy k d (omega arith)) (all k d from below)
+
+  place : ℕ
+  place = place_of n (map (set_of n) all_rows) (set_of n row)
+
+  counted : (r : Option ℕ) → MatchOption r (AllWithin Other all_rows 0 (length all_rows)) (λ i. (i < length all_rows) × HoldsAt Same all_rows i × AllWithin Other all_rows 0 i) → place ≡ unwrap_or r (length all_rows)
+  unfolding place
+  counted r found =
+      index_from_first (λ (rs : List (List ℕ)). place_of n (map (set_of n) rs) (set_of n row)) Same Other refl
+      (λ a rs same. cond-true _ 0 (suc (place_of n (map (set_of n) rs) (set_of n row))) same)
+      (λ a rs other. cond-false _ 0 (suc (place_of n (map (set_of n) rs) (set_of n row))) other ∙ sym (add-one _))
+      all_rows r found
+
+  pub found_place : (r : Option ℕ) → MatchOption r (AllWithin (λ (a : List ℕ). a ≢ row) (rows_of count words) 0 (length (rows_of count words))) (λ i. (i < length (rows_of count words)) × HoldsAt (λ (a : List ℕ). a ≡ row) (rows_of count words) i × AllWithin (λ (a : List ℕ). a ≢ row) (rows_of count words) 0 i) → r ≡ cond (is_held n (map (set_of n) (rows_of count words)) (set_of n row)) (Some (place_of n (map (set_of n) (rows_of count words)) (set_of n row))) None
+  unfolding place
+  found_place None none =
+      let at : place ≡ length all_rows = counted None (others 0 (length all_rows) (omega (arith, length_rows count words)) none) in
+      let past : length (map (set_of n) all_rows) ≤ place = omega (arith, at, length-map all_rows (set_of n)) in
+      sym (cond-false _ (Some place) None (le-ltb place (length (map (set_of n) all_rows)) past))
+  found_place (Some i) some =
+      let at : place ≡ i = counted (Some i) (some.0, λ d. same_row _ (some.1 d), others 0 i (let h : i < length all_rows = some.0 in omega (arith, length_rows count words)) some.2) in
+      let h : i < length all_rows = some.0 in
+      let within : place < length (map (set_of n) all_rows) = omega (arith, at, length-map all_rows (set_of n)) in
+      ap Some (sym at) ∙ sym (cond-true _ (Some place) None (lt-ltb place (length (map (set_of n) all_rows)) within))
 
 -- ## Different sets
 
@@ -142,18 +150,7 @@ held_some n (s ∷ ss) (suc i) fine h =
     let b = and_parts (differs_from n s ss) (all_different n ss) a.1 in
     held_some n ss i b.1 (omega arith)
 
--- ## Tidy rows
-
-pub tidy_none : (n : ℕ) → Tidy n []
-tidy_none n k high low = bit_zero _
-
-pub each_tidy : (n : ℕ) (rows : List (List ℕ)) → AllTidy n rows → (i : ℕ) → Tidy n (slice_index_or rows i [])
-each_tidy n rows all i k high low =
-    let back : 2 ^ n + (k - 2 ^ n) ≡ k = omega arith in
-    subst (λ (j : ℕ). in_words (slice_index_or rows i []) j ≡ false) back (all i (k - 2 ^ n) (omega arith))
-
-pub all_tidy : (n : ℕ) (rows : List (List ℕ)) → ((i : ℕ) → Tidy n (slice_index_or rows i [])) → AllTidy n rows
-all_tidy n rows each i k low = each i (2 ^ n + k) (omega arith) (omega arith)
+-- ## More rows, and fewer
 
 each_longer : (n : ℕ) (rows : List (List ℕ)) (row : List ℕ) → ((i : ℕ) → Tidy n (slice_index_or rows i [])) → Tidy n row → (i : ℕ) → Tidy n (slice_index_or (rows ++ row ∷ []) i [])
 each_longer n [] row tidy here zero = here

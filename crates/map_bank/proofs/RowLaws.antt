@@ -1,42 +1,55 @@
 -- Rows of sixteen words: what a loop over the words shows of the set that a row keeps.
 -- Assumes nothing.
-use Rattle.std.proofs.Common.{◌≡◌, ℕ, zero, suc, ◌+◌, ◌-◌, ◌*◌, ◌/◌, ◌%◌, ◌^◌, ◌<◌, ◌≤◌, Bool, true, false, not, ◌&&◌, ◌||◌, eqb, ltb, leb, List, [], ◌∷◌, length, get_or, drop, set, pos, negsuc, sym, refl, ap, ◌∙◌, subst, ap₂, inl, inr, pow-suc, add-one, arith, length-set, drop-cons, get_or-set_other, get_or-set_same, pow_mono, below_more}
-use lib.Bits.{bit_and, bit_or, and_le_l}
+use Rattle.std.proofs.Common.{◌≡◌, ℕ, zero, suc, ◌+◌, ◌-◌, ◌*◌, ◌/◌, ◌%◌, ◌^◌, ◌<◌, ◌≤◌, Bool, true, false, not, ◌&&◌, ◌||◌, eqb, ltb, leb, List, [], ◌∷◌, length, get_or, drop, sym, ap, ◌∙◌, subst, inl, inr, pow-suc, add-one, arith, drop-cons, pow_mono}
+use lib.Bits.{bit_and, bit_or}
 use lib.Seq.{drop-length}
+use Rattle.std.specs.Fn.{Called}
+use Rattle.std.specs.Bool.{MatchBool}
+use Rattle.std.specs.List.{AllWithin, HoldsAt}
+use denote.Param.Members.{Mut}
+use Rattle.std.specs.Array.{IsFromFnResultFrom, IsFromFnResult}
+use Rattle.std.proofs.Math.Path.{fun_ext}
 use Rattle.std.proofs.lemmas.Nat.{one_shl}
-use Rattle.std.proofs.lemmas.List.{ext_get_or}
-use Rattle.std.proofs.lemmas.Bool.{false≢true, both_ways, not-true, not-false, eqb-false, leb-true, lt-ltb, le-ltb, le-leb, cases_lt, cases_Bool, and_parts, and_from, and_left}
+use Rattle.std.proofs.lemmas.Bool.{both_ways, eqb-false, lt-ltb, cases_eq, cases_lt, cases_Bool, and_parts, and_left}
 use Rattle.std.proofs.lemmas.Bool.Decides.{nat_tests}
-use Rattle.worlds.specs.Worlds.{World, Literal, meets, some_world, speaks_within, consistent}
+use Rattle.worlds.specs.Worlds.{World, holds, Literal, meets, some_world, speaks_within, consistent}
 use Rattle.worlds.specs.Tickets.{meets_some, every, lawful_list}
-use Rattle.worlds.specs.Sets.{all_meet, none_in, same_set, same_value, side}
+use Rattle.worlds.specs.Sets.{all_meet, none_in, same_value, side}
 use Rattle.worlds.proofs.Compatible.{cannot_pass, some_world_from, the_world}
 use Rattle.map_bank.specs.Bits.{bit}
-use Rattle.map_bank.specs.Numbers.{number, world_of, number_holds, in_words, set_of}
+use Rattle.map_bank.specs.Numbers.{number, world_of, in_words, set_of}
 use Rattle.map_bank.specs.Rows.{Tidy}
-use Rattle.map_bank.proofs.BitLaws.{bit_of_and, bit_of_or, bit_lowest, bit_above, bit_zero, bit_complement, same_bits}
-use Rattle.map_bank.proofs.NumberLaws.{number_lt, number_below, number_of_world, holds_bits}
-use Rattle.map_bank.proofs.TruthTable.{same_value_is}
-use Rattle.map_bank.proofs.WordLaws.{or_none, every_from}
+use Rattle.map_bank.proofs.BitLaws.{bit_of_and, bit_of_or, bit_lowest, bit_above, bit_zero, bit_complement}
+use Rattle.map_bank.proofs.CanonLaws.{in_row}
+use Rattle.map_bank.proofs.NumberLaws.{number_lt, number_below, number_of_world}
+use Rattle.map_bank.proofs.TicketLaws.{every_more, all_speak_wider}
+use Rattle.std.proofs.Math.Bool.{and-true, or-false, or_assoc}
+use Rattle.map_bank.proofs.WordLaws.{every_from}
 
 -- ## A row made word by word
 
--- the first i of sixteen words are as a rule has them
-abbrev pub WordsTo : (ℕ → ℕ → Type 0) → List ℕ → ℕ → Type 0
-WordsTo rule words i = (length words ≡ 16) × ((j : ℕ) → j < i → rule j (get_or words j 0))
+-- sixteen words are as a rule has them
+abbrev pub Words : (ℕ → ℕ → Type 0) → List ℕ → Type 0
+Words rule words = (length words ≡ 16) × ((j : ℕ) → j < 16 → rule j (get_or words j 0))
 
-pub words_more : (rule : ℕ → ℕ → Type 0) (words : List ℕ) (i word : ℕ) → i < 16 → WordsTo rule words i → rule i word → WordsTo rule (set words i word) (i + 1)
-words_more rule words i word h first right =
-    let here : get_or (set words i word) i 0 ≡ word = get_or-set_same words i word 0 (omega arith) in (
-      length-set words i word ∙ first.0,
-      below_more (λ j. rule j (get_or (set words i word) j 0)) i
-          (λ j hj. subst (rule j) (sym (get_or-set_other words i j word 0 (λ e. omega arith))) (first.1 j hj))
-          (subst (rule i) (sym here) right),
-    )
+-- the words that a function makes, call by call, are as the rule has them, where it keeps nothing between calls
+made_from : {F : Type 0} (g : Mut F (ℕ × Unit {0}) ℕ) (rule : ℕ → ℕ → Type 0) (f : F) → ((j word : ℕ) (q : F) → j < 16 → Called g f (j, tt) word q → rule j word × (q ≡ f)) → (words : List ℕ) (i m : ℕ) → i + m ≤ 16 → IsFromFnResultFrom g f words i m → (j : ℕ) → i ≤ j → j < i + m → rule j (get_or words j 0)
+made_from g rule f says words i zero end made j low high = absurd (omega arith)
+made_from {F} g rule f says words i (suc m) end made j low high =
+    let told = says i made.1 made.0 (omega arith) made.3 in
+    elim (cases_eq j i) [
+      | inl same ↦ subst (λ (k : ℕ). rule k (get_or words k 0)) (sym same) (subst (rule i) (sym (made.2.1 0)) told.0)
+      | inr other ↦
+          made_from g rule f says words (i + 1) m (omega arith)
+          (subst (λ (q : F). IsFromFnResultFrom g q words (i + 1) m) told.1 made.4) j (omega arith) (omega arith)
+    ]
+
+pub made_words : {F : Type 0} (g : Mut F (ℕ × Unit {0}) ℕ) (rule : ℕ → ℕ → Type 0) (f : F) → ((j word : ℕ) (q : F) → j < 16 → Called g f (j, tt) word q → rule j word × (q ≡ f)) → (words : List ℕ) → IsFromFnResult g f words 16 → Words rule words
+made_words g rule f says words made = (made.long, λ j h. made_from g rule f says words 0 16 (omega arith) made.each j (omega arith) h)
 
 -- the word of a world number below 1024
-pub words_all : (rule : ℕ → ℕ → Type 0) (words : List ℕ) (i : ℕ) → 16 ≤ i → WordsTo rule words i → (k : ℕ) → k < 1024 → rule (k / 64) (get_or words (k / 64) 0)
-words_all rule words i end first k h = first.1 (k / 64) (omega arith)
+pub words_all : (rule : ℕ → ℕ → Type 0) (words : List ℕ) → Words rule words → (k : ℕ) → k < 1024 → rule (k / 64) (get_or words (k / 64) 0)
+words_all rule words first k h = first.1 (k / 64) (omega arith)
 
 -- a world number is that of its word and its bit
 rejoined : (k : ℕ) → 64 * (k / 64) + k % 64 ≡ k
@@ -44,32 +57,47 @@ rejoined k = omega arith
 
 -- ## The side of a sensing step
 
--- the complement of a literal's word has the worlds in which the literal is not so
-pub denied_side : (l : Literal) (k mask : ℕ) → mask < 2 ^ 64 → ((b : ℕ) → b < 64 → bit mask b ≡ number_holds (64 * k + b) l) → (b : ℕ) → b < 64 → bit (2 ^ 64 - 1 - mask) b ≡ not (number_holds (64 * k + b) l)
-denied_side l k mask small right b hb = bit_complement mask b small hb ∙ ap not (right b hb)
+-- ## The worlds of a row that do not meet a list
 
--- word j of the side has of the row's worlds those of the side
-abbrev pub SideWord : List ℕ → Literal → Bool → ℕ → ℕ → Type 0
-SideWord row l so j word = (b : ℕ) → b < 64 → bit word b ≡ (bit (get_or row j 0) b && same_value so (number_holds (64 * j + b) l))
+-- what is known of the word of the worlds that meet a list
+abbrev pub MeetWord : List Literal → ℕ → ℕ → Type 0
+MeetWord list j mask = (n : ℕ) (w : World n) (b : ℕ) → b < 64 → number n w ≡ 64 * j + b → bit mask b ≡ meets n w list
 
-pub side_word : (row : List ℕ) (l : Literal) (so : Bool) (j mask : ℕ) → ((b : ℕ) → b < 64 → bit mask b ≡ same_value so (number_holds (64 * j + b) l)) → SideWord row l so j (bit_and (get_or row j 0) mask)
-side_word row l so j mask right b hb =
-    bit_of_and (get_or row j 0) mask b ∙ ap (λ (x : Bool). bit (get_or row j 0) b && x) (right b hb)
+-- the bits of `word & !mask`
+bit_outside : (word mask b : ℕ) → mask < 2 ^ 64 → b < 64 → bit (bit_and word (2 ^ 64 - 1 - mask)) b ≡ (bit word b && not (bit mask b))
+bit_outside word mask b small hb =
+    bit_of_and word (2 ^ 64 - 1 - mask) b ∙ ap (λ (x : Bool). bit word b && x) (bit_complement mask b small hb)
 
-in_side : (row made : List ℕ) (l : Literal) (so : Bool) (i : ℕ) → 16 ≤ i → WordsTo (SideWord row l so) made i → (k : ℕ) → k < 1024 → in_words made k ≡ (in_words row k && same_value so (number_holds k l))
-in_side row made l so i end first k h =
-    words_all (SideWord row l so) made i end first k h (k % 64) (omega arith)
-    ∙ ap (λ (m : ℕ). in_words row k && same_value so (number_holds m l)) (rejoined k)
+-- word j of the worlds of a row that do not meet a list
+abbrev pub OutsideWord : List ℕ → List Literal → ℕ → ℕ → Type 0
+OutsideWord row list j word = (n : ℕ) (w : World n) (b : ℕ) → b < 64 → number n w ≡ 64 * j + b → bit word b ≡ (bit (get_or row j 0) b && not (meets n w list))
 
-pub side_worlds : (row made : List ℕ) (l : Literal) (so : Bool) (i : ℕ) → speaks_within 10 l ≡ true → 16 ≤ i → WordsTo (SideWord row l so) made i → (n : ℕ) → n ≤ 10 → (w : World n) → set_of n made w ≡ side n l so (set_of n row) w
-side_worlds row made l so i within end first n few w =
-    in_side row made l so i end first (number n w) (number_below n w few)
-    ∙ ap (λ (x : Bool). set_of n row w && same_value so x) (sym (holds_bits 10 n w l within))
+pub outside_word : (row : List ℕ) (list : List Literal) (j mask : ℕ) → mask < 2 ^ 64 → MeetWord list j mask → OutsideWord row list j (bit_and (get_or row j 0) (2 ^ 64 - 1 - mask))
+outside_word row list j mask small right n w b hb is =
+    bit_outside (get_or row j 0) mask b small hb ∙ ap (λ (x : Bool). bit (get_or row j 0) b && not x) (right n w b hb is)
 
-pub side_tidy : (row made : List ℕ) (l : Literal) (so : Bool) (i : ℕ) → 16 ≤ i → WordsTo (SideWord row l so) made i → (n : ℕ) → Tidy n row → Tidy n made
-side_tidy row made l so i end first n tidy k beyond h =
-    in_side row made l so i end first k h
-    ∙ and_left (in_words row k) (same_value so (number_holds k l)) (tidy k beyond h)
+outside_worlds_at : (row made : List ℕ) (list : List Literal) → Words (OutsideWord row list) made → (n : ℕ) → n ≤ 10 → (w : World n) → set_of n made w ≡ (set_of n row w && not (meets n w list))
+outside_worlds_at row made list first n few w =
+    words_all (OutsideWord row list) made first (number n w) (number_below n w few) n w (number n w % 64) (omega arith) (sym (rejoined (number n w)))
+
+pub outside_worlds : (n : ℕ) (row made : List ℕ) (list : List Literal) → n ≤ 10 → Words (OutsideWord row list) made → (w : World n) → set_of n made w ≡ (set_of n row w && not (meets n w list))
+outside_worlds n row made list few first = outside_worlds_at row made list first n few
+
+pub outside_tidy : (n : ℕ) (row made : List ℕ) (list : List Literal) → n ≤ 10 → Tidy n row → Words (OutsideWord row list) made → Tidy n made
+outside_tidy n row made list few tidy first k beyond h =
+    let is : number 10 (world_of 10 k) ≡ k = number_of_world 10 k h in
+    ap (in_words made) (sym is) ∙ outside_worlds_at row made list first 10 (omega arith) (world_of 10 k)
+    ∙ and_left _ _ (ap (in_words row) is ∙ tidy k beyond h)
+
+-- a set meets a list where its worlds that do not are none
+pub meets_outside : (n m : ℕ) (row made : List ℕ) (list : List Literal) (told : Bool) → m ≡ n → ((w : World n) → set_of n made w ≡ (set_of n row w && not (meets n w list))) → told ≡ none_in m (set_of m made) → told ≡ all_meet n (set_of n row) list
+meets_outside n m row made list told same outside none =
+    subst (λ (k : ℕ). told ≡ none_in k (set_of k made)) same none ∙ ap (none_in n) (fun_ext outside)
+
+-- the side of a literal has the worlds that do not meet what is denied there
+pub side_outside : (n : ℕ) (row made : List ℕ) (l denied : Literal) (so : Bool) → ((m : ℕ) (w : World m) → not (holds m w denied) ≡ same_value so (holds m w l)) → ((w : World n) → set_of n made w ≡ (set_of n row w && not (meets n w (denied ∷ [])))) → (w : World n) → set_of n made w ≡ side n l so (set_of n row) w
+side_outside n row made l denied so turned outside w =
+    outside w ∙ ap (λ (x : Bool). set_of n row w && not x) (and-true (holds n w denied)) ∙ ap (λ (x : Bool). set_of n row w && x) (turned n w)
 
 -- ## A row asked word by word
 
@@ -84,13 +112,6 @@ nonzero_bit (suc k) x small some =
           (suc above.0, omega arith, bit_above x above.0 ∙ above.2)
     ]
 
--- a bit of a word, as the row has it under the number of its world
-in_word : (row : List ℕ) (j b : ℕ) → b < 64 → in_words row (64 * j + b) ≡ bit (get_or row j 0) b
-in_word row j b hb =
-    let word : (64 * j + b) / 64 ≡ j = omega arith in
-    let place : (64 * j + b) % 64 ≡ b = omega arith in
-    ap₂ (λ (x y : ℕ). bit (get_or row x 0) y) word place
-
 -- a tidy row's bit of a number is that of a world
 tidy_world : (n : ℕ) (row : List ℕ) (k : ℕ) → Tidy n row → k < 1024 → in_words row k ≡ true → (w : World n) × (number n w ≡ k)
 tidy_world n row k tidy h has =
@@ -98,6 +119,10 @@ tidy_world n row k tidy h has =
       | inl below ↦ (world_of n k, number_of_world n k below)
       | inr beyond ↦ absurd (both_ways (in_words row k) (tidy k beyond h) has)
     ]
+
+pub tidy_below : (n : ℕ) (row : List ℕ) (k : ℕ) → Tidy n row → k < 1024 → in_words row k ≡ true → k < 2 ^ n
+tidy_below n row k tidy h has =
+    elim (cases_lt k (2 ^ n)) [ inl below ↦ below | inr beyond ↦ absurd (both_ways (in_words row k) (tidy k beyond h) has) ]
 
 -- that no world passes a test, and that some world does
 none_from : (n : ℕ) (test : World n → Bool) → ((w : World n) → test w ≡ true → ⊥) → true ≡ not (some_world n test)
@@ -107,66 +132,10 @@ none_from n test never =
 some_from : (n : ℕ) (test : World n → Bool) (w : World n) → test w ≡ true → false ≡ not (some_world n test)
 some_from n test w passes = sym (ap not (some_world_from n test w passes))
 
--- each world of word j meets a list
-abbrev pub WordMeets : List ℕ → List Literal → ℕ → Type 0
-WordMeets row list j = (n : ℕ) (w : World n) (b : ℕ) → b < 64 → number n w ≡ 64 * j + b → bit (get_or row j 0) b ≡ true → meets n w list ≡ true
-
--- what is known of the word of the worlds that meet a list
-abbrev pub MeetWord : List Literal → ℕ → ℕ → Type 0
-MeetWord list j mask = (n : ℕ) (w : World n) (b : ℕ) → b < 64 → number n w ≡ 64 * j + b → bit mask b ≡ meets n w list
-
--- the bits of `word & !mask`
-bit_outside : (word mask b : ℕ) → mask < 2 ^ 64 → b < 64 → bit (bit_and word (2 ^ 64 - 1 - mask)) b ≡ (bit word b && not (bit mask b))
-bit_outside word mask b small hb =
-    bit_of_and word (2 ^ 64 - 1 - mask) b ∙ ap (λ (x : Bool). bit word b && x) (bit_complement mask b small hb)
-
-no_longer : (x y : Bool) → (x && not y) ≡ false → x ≡ true → y ≡ true
-no_longer true true none has = refl
-no_longer true false none has = sym none
-no_longer false y none has = absurd (false≢true has)
-
-pub word_meets : (row : List ℕ) (list : List Literal) (j mask : ℕ) → mask < 2 ^ 64 → MeetWord list j mask → bit_and (get_or row j 0) (2 ^ 64 - 1 - mask) ≡ 0 → WordMeets row list j
-word_meets row list j mask small right none n w b hb is has =
-    let outside : (bit (get_or row j 0) b && not (bit mask b)) ≡ false =
-    sym (bit_outside (get_or row j 0) mask b small hb) ∙ ap (λ (x : ℕ). bit x b) none ∙ bit_zero b in
-    sym (right n w b hb is) ∙ no_longer (bit (get_or row j 0) b) (bit mask b) outside has
-
-pub row_meets : (row : List ℕ) (list : List Literal) (i : ℕ) → 16 ≤ i → ((j : ℕ) → j < i → WordMeets row list j) → (n : ℕ) → n ≤ 10 → true ≡ all_meet n (set_of n row) list
-row_meets row list i end all n few =
-    none_from n (λ w. set_of n row w && not (meets n w list)) (λ w passes.
-    let parts = and_parts (set_of n row w) (not (meets n w list)) passes in
-    let k = number n w in
-    let below : k < 1024 = number_below n w few in
-    let met : meets n w list ≡ true = all (k / 64) (omega arith) n w (k % 64) (omega arith) (sym (rejoined k)) parts.0 in
-    both_ways (meets n w list) (not-true (meets n w list) parts.1) met)
-
--- a bit of the row outside the word of the worlds that meet a list is a world that does not
-fails_at : (row : List ℕ) (list : List Literal) (j mask b : ℕ) → j < 16 → b < 64 → MeetWord list j mask → bit (get_or row j 0) b ≡ true → not (bit mask b) ≡ true → (n : ℕ) → Tidy n row → false ≡ all_meet n (set_of n row) list
-fails_at row list j mask b hj hb right has outside n tidy =
-    let here : in_words row (64 * j + b) ≡ true = in_word row j b hb ∙ has in
-    let world = tidy_world n row (64 * j + b) tidy (omega arith) here in
-    fails world.0 world.1 here
-  where
-    fails : (w : World n) → number n w ≡ 64 * j + b → in_words row (64 * j + b) ≡ true → false ≡ all_meet n (set_of n row) list
-    fails w is here =
-        some_from n (λ v. set_of n row v && not (meets n v list)) w
-        (and_from (set_of n row w) (not (meets n w list)) (ap (in_words row) is ∙ here)
-        (ap not (sym (right n w b hb is)) ∙ outside))
-
-pub row_fails : (row : List ℕ) (list : List Literal) (j mask : ℕ) → j < 16 → get_or row j 0 < 2 ^ 64 → mask < 2 ^ 64 → MeetWord list j mask → (bit_and (get_or row j 0) (2 ^ 64 - 1 - mask) ≡ 0 → ⊥) → (n : ℕ) → Tidy n row → false ≡ all_meet n (set_of n row) list
-row_fails row list j mask hj fits small right some =
-    let found = nonzero_bit 64 (bit_and (get_or row j 0) (2 ^ 64 - 1 - mask)) (omega (arith, and_le_l (get_or row j 0) (2 ^ 64 - 1 - mask))) some in
-    fails found.0 found.1 found.2
-  where
-    fails : (b : ℕ) → b < 64 → bit (bit_and (get_or row j 0) (2 ^ 64 - 1 - mask)) b ≡ true → (n : ℕ) → Tidy n row → false ≡ all_meet n (set_of n row) list
-    fails b hb outside =
-        let parts = and_parts (bit (get_or row j 0) b) (not (bit mask b)) (sym (bit_outside (get_or row j 0) mask b small hb) ∙ outside) in
-        fails_at row list j mask b hj hb right parts.0 parts.1
-
 -- ## A row without worlds
 
-pub row_none : (row : List ℕ) (i : ℕ) → 16 ≤ i → ((j : ℕ) → j < i → get_or row j 0 ≡ 0) → (n : ℕ) → n ≤ 10 → true ≡ none_in n (set_of n row)
-row_none row i end all n few =
+pub row_none : (row : List ℕ) → ((j : ℕ) → j < 16 → get_or row j 0 ≡ 0) → (n : ℕ) → n ≤ 10 → true ≡ none_in n (set_of n row)
+row_none row all n few =
     none_from n (set_of n row) (λ w has.
     let k = number n w in
     let below : k < 1024 = number_below n w few in
@@ -176,49 +145,18 @@ pub row_some : (row : List ℕ) (j : ℕ) → j < 16 → get_or row j 0 < 2 ^ 64
 row_some row j hj fits some n tidy =
     let found = nonzero_bit 64 (get_or row j 0) fits some in
     let b = found.0 in
-    let has : in_words row (64 * j + b) ≡ true = in_word row j b found.1 ∙ found.2 in
+    let has : in_words row (64 * j + b) ≡ true = in_row row j b found.1 ∙ found.2 in
     let world = tidy_world n row (64 * j + b) tidy (let low : b < 64 = found.1 in omega arith) has in
     some_from n (set_of n row) world.0 (ap (in_words row) world.1 ∙ has)
 
+-- what is told of all words of a row tells whether its set is empty
+pub empty_row : (n : ℕ) (row : List ℕ) (told : Bool) → n ≤ 10 → Tidy n row → length row ≡ 16 → MatchBool told (AllWithin (λ (x : ℕ). x ≡ 0) row 0 (length row)) ((j : ℕ) × (j < length row) × HoldsAt (λ (x : ℕ). (x ≡ 0 → ⊥) × (x < 2 ^ 64)) row j) → told ≡ none_in n (set_of n row)
+empty_row n row true few tidy long all = row_none row (λ j h. all j 0 (omega arith) (omega arith)) n few
+empty_row n row false few tidy long some = row_some row some.0 (let h : some.0 < length row = some.1 in omega arith) (some.2 0).1 (some.2 0).0 n tidy
+
 -- ## Rows are the same exactly where their sets are
 
-same_itself : (x : Bool) → same_value x x ≡ true
-same_itself true = refl
-same_itself false = refl
-
--- sets that pass the test have the same worlds
-same_worlds : (n : ℕ) (s t : World n → Bool) → same_set n s t ≡ true → (w : World n) → s w ≡ t w
-same_worlds n s t same w =
-    same_value_is (s w) (t w) (not-false (same_value (s w) (t w)) (cannot_pass (not (same_value (s w) (t w))) (λ differ.
-    let some : some_world n (λ v. not (same_value (s v) (t v))) ≡ true = some_world_from n (λ v. not (same_value (s v) (t v))) w differ in
-    both_ways (same_set n s t) (ap not some) same)))
-
-same_in_words : (n : ℕ) (a b : List ℕ) → Tidy n a → Tidy n b → same_set n (set_of n a) (set_of n b) ≡ true → (k : ℕ) → k < 1024 → in_words a k ≡ in_words b k
-same_in_words n a b tidy-a tidy-b same k h =
-    elim (cases_lt k (2 ^ n)) [
-      | inl below ↦
-          let is : number n (world_of n k) ≡ k = number_of_world n k below in
-          ap (in_words a) (sym is) ∙ same_worlds n (set_of n a) (set_of n b) same (world_of n k) ∙ ap (in_words b) is
-      | inr beyond ↦ tidy-a k beyond h ∙ sym (tidy-b k beyond h)
-    ]
-
-pub rows_from_sets : (n : ℕ) (a b : List ℕ) → length a ≡ 16 → length b ≡ 16 → ((i : ℕ) → get_or a i 0 < 2 ^ 64) → ((i : ℕ) → get_or b i 0 < 2 ^ 64) → Tidy n a → Tidy n b → same_set n (set_of n a) (set_of n b) ≡ true → a ≡ b
-rows_from_sets n a b long-a long-b fits-a fits-b tidy-a tidy-b same =
-    ext_get_or 0 a b (long-a ∙ sym long-b) (λ i hi.
-    same_bits (get_or a i 0) (get_or b i 0) (fits-a i) (fits-b i) (λ j hj.
-    sym (in_word a i j hj) ∙ same_in_words n a b tidy-a tidy-b same (64 * i + j) (omega arith) ∙ in_word b i j hj))
-
-pub sets_from_rows : (n : ℕ) (a b : List ℕ) → a ≡ b → same_set n (set_of n a) (set_of n b) ≡ true
-sets_from_rows n a b same =
-    subst (λ (c : List ℕ). same_set n (set_of n a) (set_of n c) ≡ true) same
-    (sym (none_from n (λ w. not (same_value (set_of n a w) (set_of n a w))) (λ w differ.
-    both_ways (not (same_value (set_of n a w) (set_of n a w))) (ap not (same_itself (set_of n a w))) differ)))
-
 -- ## The worlds that meet at least one term
-
-or_regroups : (x y z : Bool) → (x || (y || z)) ≡ ((x || y) || z)
-or_regroups true y z = refl
-or_regroups false y z = refl
 
 -- a world meets some of the lists where its bit in word k is one or it meets some of the rest
 abbrev Joins : ℕ → ℕ → List (List Literal) → List (List Literal) → Type 0
@@ -229,7 +167,7 @@ joins_more : (mask more k : ℕ) (lists rest : List (List Literal)) (list : List
 joins_more mask more k lists rest list before right n w b hb is =
     before n w b hb is
     ∙ ap (λ (x : Bool). bit mask b || (x || meets_some n w rest)) (sym (right n w b hb is))
-    ∙ or_regroups (bit mask b) (bit more b) (meets_some n w rest)
+    ∙ sym (or_assoc (bit mask b) (bit more b) (meets_some n w rest))
     ∙ ap (λ (x : Bool). x || meets_some n w rest) (sym (bit_of_or mask more b))
 
 -- word k after the first i lists: their worlds, and the lists left to come are of conditions 1 to 10
@@ -255,11 +193,11 @@ UnionWord lists k word = (n : ℕ) (w : World n) (b : ℕ) → b < 64 → number
 pub joins_first_all : (mask k : ℕ) (lists : List (List Literal)) (i : ℕ) → i ≡ length lists → JoinsFirst mask k lists i → UnionWord lists k mask
 joins_first_all mask k lists i end first n w b hb is =
     let rest : drop i lists ≡ [] = ap (λ (j : ℕ). drop j lists) end ∙ drop-length lists in
-    sym (subst (λ (ls : List (List Literal)). Joins mask k lists ls) rest first.1 n w b hb is ∙ or_none (bit mask b))
+    sym (subst (λ (ls : List (List Literal)). Joins mask k lists ls) rest first.1 n w b hb is ∙ or-false (bit mask b))
 
-pub union_worlds : (lists : List (List Literal)) (made : List ℕ) (i : ℕ) → 16 ≤ i → WordsTo (UnionWord lists) made i → (n : ℕ) → n ≤ 10 → (w : World n) → set_of n made w ≡ meets_some n w lists
-union_worlds lists made i end first n few w =
-    words_all (UnionWord lists) made i end first (number n w) (number_below n w few) n w (number n w % 64) (omega arith)
+pub union_worlds : (lists : List (List Literal)) (made : List ℕ) → Words (UnionWord lists) made → (n : ℕ) → n ≤ 10 → (w : World n) → set_of n made w ≡ meets_some n w lists
+union_worlds lists made first n few w =
+    words_all (UnionWord lists) made first (number n w) (number_below n w few) n w (number n w % 64) (omega arith)
     (sym (rejoined (number n w)))
 
 -- ## A row without the bits beyond its worlds
@@ -292,28 +230,12 @@ trimmed_without row kept i lacks before k =
 
 -- ## The starting worlds
 
-speaks_more : (m n : ℕ) → m ≤ n → (l : Literal) → speaks_within m l ≡ true → speaks_within n l ≡ true
-speaks_more m n h (pos p) within =
-    let parts = and_parts (ltb 0 p) (leb p m) within in
-    let most : p ≤ m = leb-true p m parts.1 in
-    and_from (ltb 0 p) (leb p n) parts.0 (le-leb p n (omega arith))
-speaks_more m n h (negsuc p) within =
-    let most : suc p ≤ m = leb-true (suc p) m within in
-    le-leb (suc p) n (omega arith)
-
-every_more : {X : Type 0} (test other : X → Bool) → ((x : X) → test x ≡ true → other x ≡ true) → (xs : List X) → every test xs ≡ true → every other xs ≡ true
-every_more test other more [] all = refl
-every_more test other more (x ∷ xs) all =
-    let parts = and_parts (test x) (every test xs) all in
-    and_from (other x) (every other xs) (more x parts.0) (every_more test other more xs parts.1)
-
 -- lawful lists of n conditions are of conditions 1 to 10 where n is at most 10
 pub lawful_speak : (n : ℕ) → n ≤ 10 → (lists : List (List Literal)) → every (lawful_list n 32) lists ≡ true → every (every (speaks_within 10)) lists ≡ true
 lawful_speak n few lists lawful =
     every_more (lawful_list n 32) (every (speaks_within 10)) (λ ls one.
     let speaks = (and_parts (leb (length ls) 32) (every (speaks_within n) ls && consistent ls) one).1 in
-    every_more (speaks_within n) (speaks_within 10) (speaks_more n 10 few) ls
-    (and_parts (every (speaks_within n) ls) (consistent ls) speaks).0)
+    all_speak_wider n ls few (and_parts (every (speaks_within n) ls) (consistent ls) speaks).0)
     lists lawful
 
 pub start_worlds : (n : ℕ) (lists : List (List Literal)) (union made : List ℕ) → ((w : World n) → set_of n union w ≡ meets_some n w lists) → TrimmedTo union made (2 ^ n) → (w : World n) → set_of n made w ≡ meets_some n w lists
@@ -321,7 +243,3 @@ start_worlds n lists union made joined trims w =
     trims (number n w)
     ∙ ap (λ (x : Bool). x && set_of n union w) (lt-ltb (number n w) (2 ^ n) (number_lt n w))
     ∙ joined w
-
-pub start_tidy : (n : ℕ) (union made : List ℕ) → TrimmedTo union made (2 ^ n) → Tidy n made
-start_tidy n union made trims k beyond h =
-    trims k ∙ and_left (ltb k (2 ^ n)) (in_words union k) (le-ltb k (2 ^ n) beyond)

@@ -1,6 +1,6 @@
 -- The worlds that outcomes give from a set, by their numbers.
 -- Assumes nothing.
-use Rattle.std.proofs.Common.{◌≡◌, ℕ, zero, suc, ◌+◌, ◌-◌, ◌*◌, ◌/◌, ◌%◌, ◌^◌, ◌<◌, ◌≤◌, Bool, true, false, cond, not, ◌&&◌, ◌||◌, eqb, ltb, leb, List, [], ◌∷◌, map, length, get_or, drop, set, replicate, pos, negsuc, nat_abs, sym, refl, ap, ◌∙◌, subst, ap₂, inl, inr, lt_of_lt_of_le, lt_of_le_of_lt, add-zero, add_assoc, add-suc, add-one, arith, drop-cons, get_or-set_other, get_or-set_same, pow_mono}
+use Rattle.std.proofs.Common.{◌≡◌, ℕ, zero, suc, ◌+◌, ◌-◌, ◌*◌, ◌/◌, ◌%◌, ◌^◌, ◌<◌, ◌≤◌, Bool, true, false, cond, not, ◌&&◌, ◌||◌, eqb, ltb, leb, List, [], ◌∷◌, map, length, get_or, drop, pos, negsuc, nat_abs, sym, refl, ap, ◌∙◌, subst, ap₂, inl, inr, lt_of_lt_of_le, lt_of_le_of_lt, add-zero, add_assoc, add-suc, add-one, arith, pow_mono}
 use lib.Bits.{bit_and, bit_or, and_le_l, or_lt}
 use lib.Dec.{eqb-suc-suc}
 use lib.ListN.{length-map}
@@ -8,13 +8,13 @@ use lib.Seq.{drop-length}
 use lib.IntN.{neg_ℤ-neg_ℤ}
 use lib.Signed.{lt_z}
 use Rattle.std.proofs.lemmas.Nat.{pow_below, one_shl}
-use Rattle.std.proofs.lemmas.Bool.{cases_eq, both_ways, not-true, true≢false, false≢true, eqb-true, eq-eqb, ltb-true, ltb-false, lt-ltb, leb-true, le-leb, and_parts, and_from, and_left, and_right, or_cases, or_from, or_left, or_right}
+use Rattle.std.proofs.lemmas.Bool.{cases_eq, both_ways, not-true, true≢false, false≢true, eqb-true, eq-eqb, ltb-true, ltb-false, lt-ltb, leb-true, and_parts, and_from, and_left, and_right, or_cases, or_from, or_left, or_right}
 use Rattle.worlds.specs.declared.step.Effect as code_effect
 use Rattle.worlds.specs.declared.step.Outcome as code_outcome
 use Rattle.worlds.specs.Meaning.{effect_of, outcome_of, listed}
 use Rattle.worlds.specs.Worlds.{World, value, world_by, Literal, opposite, same_literal, meets, speaks_within, consistent}
 use Rattle.worlds.specs.Steps.{Effect, Outcome, brings, after}
-use Rattle.worlds.specs.Sets.{same_value, same_world, may_give, successor}
+use Rattle.worlds.specs.Sets.{same_world, may_give, successor}
 use Rattle.worlds.specs.Tickets.{every, lawful_list, lawful_effect, clashes_later, apart, lawful_outcome}
 use Rattle.worlds.proofs.Compatible.{same_tests, cannot_pass, same_literal_is, value_rest, value_by}
 use Rattle.worlds.proofs.TakeHold.{brought_by, met_clash, clashes_in}
@@ -23,7 +23,9 @@ use Rattle.map_bank.specs.Numbers.{number, world_of, in_words, set_of}
 use Rattle.map_bank.specs.Successors.{made, Masked, gives, some_from}
 use Rattle.map_bank.proofs.BitLaws.{bit_of_and, bit_zero, bit_put, bit_power, bit_complement, same_bits_at, shift_test}
 use Rattle.map_bank.proofs.NumberLaws.{number_lt, world_of_number, number_of_world, some_number, number_some, value_bit_suc}
-use Rattle.map_bank.proofs.WordLaws.{or_none}
+use Rattle.map_bank.proofs.SameLaws.{same_world_self, same_world_is}
+use Rattle.map_bank.proofs.TicketLaws.{every_more, speaks_wider, all_speak_wider}
+use Rattle.std.proofs.Math.Bool.{or-false, or_assoc}
 
 -- ## Worlds by rules
 
@@ -182,32 +184,11 @@ result_within n e fine = (and_parts (lawful_list n 4 e.conditions) (speaks_withi
 pub effect_at : (n : ℕ) (effects : List code_effect.Effect) (i : ℕ) (d : code_effect.Effect) → i < length effects → every (lawful_effect n) (map effect_of effects) ≡ true → lawful_effect n (effect_of (get_or effects i d)) ≡ true
 effect_at n effects i d h all = every_at (lawful_effect n) effect_of effects i d h all
 
--- what stands at a place that a list has does not depend on the default
-get_d_any : {X : Type 0} (xs : List X) (i : ℕ) (d e : X) → i < length xs → get_or xs i d ≡ get_or xs i e
-get_d_any [] i d e h = absurd (omega arith)
-get_d_any (x ∷ xs) zero d e h = refl
-get_d_any (x ∷ xs) (suc i) d e h = get_d_any xs i d e (omega arith)
-
 -- the masks of the first effects are right
 abbrev pub MaskedFirst : ℕ → ℕ → List code_effect.Effect → List ℕ → Type 0
 MaskedFirst many k effects masks =
     (i : ℕ) (d : code_effect.Effect) → i < many → i < length effects → (n : ℕ) (w : World n) (b : ℕ) → b < 64 → number n w ≡ 64 * k + b →
     bit (get_or masks i 0) b ≡ meets n w (listed (get_or effects i d).conditions)
-
-pub masked_more : (k i v : ℕ) (effects : List code_effect.Effect) (masks : List ℕ) (e : code_effect.Effect) → i < length masks → MaskedFirst i k effects masks → ((n : ℕ) (w : World n) (b : ℕ) → b < 64 → number n w ≡ 64 * k + b → bit v b ≡ meets n w (listed (get_or effects i e).conditions)) → MaskedFirst (i + 1) k effects (set masks i v)
-masked_more k i v effects masks e room first right j d hj hl n w b hb is =
-    elim (cases_eq j i) [
-      | inl same ↦
-          let here : get_or (set masks i v) j 0 ≡ v =
-          subst (λ (q : ℕ). get_or (set masks i v) q 0 ≡ v) (sym same) (get_or-set_same masks i v 0 room) in
-          let met : bit v b ≡ meets n w (listed (get_or effects j e).conditions) =
-          subst (λ (q : ℕ). bit v b ≡ meets n w (listed (get_or effects q e).conditions)) (sym same) (right n w b hb is) in
-          ap (λ (x : ℕ). bit x b) here ∙ met
-          ∙ ap (λ (x : code_effect.Effect). meets n w (listed x.conditions)) (get_d_any effects j e d hl)
-      | inr other ↦
-          ap (λ (x : ℕ). bit x b) (get_or-set_other masks i j v 0 other)
-          ∙ first j d (omega arith) hl n w b hb is
-    ]
 
 -- ## The effects that the code takes
 
@@ -216,23 +197,6 @@ abbrev TakenRest : ℕ → List code_effect.Effect → List code_effect.Effect �
 TakenRest world effects rest next =
     (n : ℕ) (w : World n) → n ≤ 10 → every (lawful_effect n) (map effect_of effects) ≡ true → apart n (map effect_of effects) ≡ true → number n w ≡ world →
     (v : World n) × (next ≡ number n v) × (apart n (map effect_of rest) ≡ true) × (later n (map effect_of rest) w v ≡ after n (map effect_of effects) w)
-
--- the world that has taken the first i effects
-abbrev pub Taken : ℕ → List code_effect.Effect → ℕ → ℕ → Type 0
-Taken world effects i next = TakenRest world effects (drop i effects) next
-
--- whether a world meets the effect at a place
-abbrev MeetsAt : ℕ → List code_effect.Effect → ℕ → code_effect.Effect → Bool → Type 0
-MeetsAt world effects i d met = (n : ℕ) (w : World n) → number n w ≡ world → meets n w (listed (get_or effects i d).conditions) ≡ met
-
--- the masks tell
-pub met_by_mask : (world : ℕ) (effects : List code_effect.Effect) (masks : List ℕ) (i : ℕ) (d : code_effect.Effect) (met : Bool) → i < length effects → Masked (world / 64) effects masks → eqb (bit_and (get_or masks i 0 / 2 ^ (world % 64)) 1) 1 ≡ met → MeetsAt world effects i d met
-met_by_mask world effects masks i d met h right test n w is =
-    let split : number n w ≡ 64 * (world / 64) + world % 64 = omega arith in
-    sym (right i d h n w (world % 64) (omega arith) split) ∙ sym (shift_test (get_or masks i 0) (world % 64)) ∙ test
-
-pub taken_none : (world : ℕ) (effects : List code_effect.Effect) → Taken world effects 0 world
-taken_none world effects n w small fine clear is = (w, sym is, clear, refl)
 
 rest_skip : (world next : ℕ) (effects rest : List code_effect.Effect) (e : code_effect.Effect) → TakenRest world effects (e ∷ rest) next → ((n : ℕ) (w : World n) → number n w ≡ world → meets n w (listed e.conditions) ≡ false) → TakenRest world effects rest next
 rest_skip world next effects rest e before unmet n w small fine clear is =
@@ -250,53 +214,65 @@ rest_take world next new effects rest e before met within change n w small fine 
       sym (later_take n (effect_of e) (map effect_of rest) w was.0 was.2 (met n w is)) ∙ was.3,
     )
 
--- the effect at a place stands first in the rest
-taken_first : (world next : ℕ) (effects : List code_effect.Effect) (i : ℕ) (d : code_effect.Effect) → i < length effects → Taken world effects i next → TakenRest world effects (get_or effects i d ∷ drop (suc i) effects) next
-taken_first world next effects i d h before =
-    subst (λ (rest : List code_effect.Effect). TakenRest world effects rest next) (drop-cons effects i d h) before
+-- the masks tell whether a world meets the first of some effects
+met_first : (world : ℕ) (e : code_effect.Effect) (rest : List code_effect.Effect) (m : ℕ) (masks : List ℕ) (met : Bool) → Masked (world / 64) (e ∷ rest) (m ∷ masks) → eqb (bit_and (m / 2 ^ (world % 64)) 1) 1 ≡ met → (n : ℕ) (w : World n) → number n w ≡ world → meets n w (listed e.conditions) ≡ met
+met_first world e rest m masks met right test n w is =
+    let split : number n w ≡ 64 * (world / 64) + world % 64 = omega arith in
+    sym (right 0 e (omega arith) n w (world % 64) (omega arith) split) ∙ sym (shift_test m (world % 64)) ∙ test
 
-pub taken_skip : (world next : ℕ) (effects : List code_effect.Effect) (i : ℕ) (d : code_effect.Effect) → i < length effects → Taken world effects i next → MeetsAt world effects i d false → Taken world effects (i + 1) next
-taken_skip world next effects i d h before unmet =
-    subst (λ (j : ℕ). Taken world effects j next) (sym (add-one i))
-    (rest_skip world next effects (drop (suc i) effects) (get_or effects i d) (taken_first world next effects i d h before) unmet)
+-- an outcome's effects that have yet to take hold, and their masks, where the world so far has number next
+pub record Left (world : ℕ) (effects rest : List code_effect.Effect) (masks : List ℕ) (next : ℕ) : Type 0 where
+  pub lawful : (n : ℕ) → every (lawful_effect n) (map effect_of effects) ≡ true → every (lawful_effect n) (map effect_of rest) ≡ true
+  pub room : length rest ≤ length masks
+  pub masked : Masked (world / 64) rest masks
+  pub taken : TakenRest world effects rest next
 
-pub taken_more : (world next new : ℕ) (effects : List code_effect.Effect) (i : ℕ) (d : code_effect.Effect) → i < length effects → Taken world effects i next → MeetsAt world effects i d true → ((n : ℕ) (v : World n) → n ≤ 10 → speaks_within n (get_or effects i d).result ≡ true → number n v ≡ next → new ≡ number n (made n (get_or effects i d).result v)) → Taken world effects (i + 1) new
-taken_more world next new effects i d h before met change =
-    subst (λ (j : ℕ). Taken world effects j new) (sym (add-one i))
-    (rest_take world next new effects (drop (suc i) effects) (get_or effects i d) (taken_first world next effects i d h before) met
-    (λ n fine. result_within n (effect_of (get_or effects i d)) (effect_at n effects i d h fine)) change)
+-- the first of the effects speaks of lawful conditions
+left_within : (world next : ℕ) (effects rest : List code_effect.Effect) (e : code_effect.Effect) (masks : List ℕ) → Left world effects (e ∷ rest) masks next → (n : ℕ) → every (lawful_effect n) (map effect_of effects) ≡ true → speaks_within n e.result ≡ true
+left_within world next effects rest e masks left n fine =
+    result_within n (effect_of e) (and_parts (lawful_effect n (effect_of e)) (every (lawful_effect n) (map effect_of rest)) (left.lawful n fine)).0
 
-pub taken_all : (world next : ℕ) (effects : List code_effect.Effect) (i : ℕ) → i ≡ length effects → Taken world effects i next → (n : ℕ) (w : World n) → n ≤ 10 → every (lawful_effect n) (map effect_of effects) ≡ true → apart n (map effect_of effects) ≡ true → number n w ≡ world → next ≡ number n (after n (map effect_of effects) w)
-taken_all world next effects i end all n w small fine clear is =
-    let none : drop i effects ≡ [] = ap (λ (j : ℕ). drop j effects) end ∙ drop-length effects in
-    let was = subst (λ (rest : List code_effect.Effect). TakenRest world effects rest next) none all n w small fine clear is in
+-- one effect fewer
+left_fewer : (world next new : ℕ) (effects rest : List code_effect.Effect) (e : code_effect.Effect) (masks : List ℕ) (m : ℕ) → Left world effects (e ∷ rest) (m ∷ masks) next → TakenRest world effects rest new → Left world effects rest masks new
+left_fewer world next new effects rest e masks m left taken = record {
+  lawful = λ n fine. (and_parts (lawful_effect n (effect_of e)) (every (lawful_effect n) (map effect_of rest)) (left.lawful n fine)).1;
+  room = let room : suc (length rest) ≤ suc (length masks) = left.room in omega arith;
+  masked = λ i d h. left.masked (suc i) d (omega arith);
+  taken = taken;
+}
+
+left_first : (world next : ℕ) (effects all rest : List code_effect.Effect) (e : code_effect.Effect) (bits masks : List ℕ) (m : ℕ) → Left world effects all bits next → all ≡ e ∷ rest → bits ≡ m ∷ masks → Left world effects (e ∷ rest) (m ∷ masks) next
+left_first world next effects all rest e bits masks m left is at =
+    subst (λ (ms : List ℕ). Left world effects (e ∷ rest) ms next) at (subst (λ (es : List code_effect.Effect). Left world effects es bits next) is left)
+
+pub left_skip : (world next : ℕ) (effects all rest : List code_effect.Effect) (e : code_effect.Effect) (bits masks : List ℕ) (m : ℕ) → Left world effects all bits next → all ≡ e ∷ rest → bits ≡ m ∷ masks → eqb (bit_and (m / 2 ^ (world % 64)) 1) 1 ≡ false → Left world effects rest masks next
+left_skip world next effects all rest e bits masks m left is at test =
+    let first = left_first world next effects all rest e bits masks m left is at in
+    left_fewer world next next effects rest e masks m first
+    (rest_skip world next effects rest e first.taken (met_first world e rest m masks false first.masked test))
+
+pub left_take : (world next new : ℕ) (effects all rest : List code_effect.Effect) (e : code_effect.Effect) (bits masks : List ℕ) (m : ℕ) → Left world effects all bits next → all ≡ e ∷ rest → bits ≡ m ∷ masks → eqb (bit_and (m / 2 ^ (world % 64)) 1) 1 ≡ true → ((n : ℕ) (v : World n) → n ≤ 10 → speaks_within n e.result ≡ true → number n v ≡ next → new ≡ number n (made n e.result v)) → Left world effects rest masks new
+left_take world next new effects all rest e bits masks m left is at test change =
+    let first = left_first world next effects all rest e bits masks m left is at in
+    left_fewer world next new effects rest e masks m first
+    (rest_take world next new effects rest e first.taken (met_first world e rest m masks true first.masked test) (left_within world next effects rest e (m ∷ masks) first) change)
+
+-- where no effect is left, the world is that after the outcome
+pub left_none : (world next : ℕ) (effects : List code_effect.Effect) (rest : List code_effect.Effect) (masks : List ℕ) → length rest ≡ 0 → Left world effects rest masks next → (n : ℕ) (w : World n) → n ≤ 10 → every (lawful_effect n) (map effect_of effects) ≡ true → apart n (map effect_of effects) ≡ true → number n w ≡ world → next ≡ number n (after n (map effect_of effects) w)
+left_none world next effects [] masks none left n w small fine clear is =
+    let was = left.taken n w small fine clear is in
     was.1 ∙ ap (number n) (sym (later_none n w was.0) ∙ was.3)
+left_none world next effects (e ∷ rest) masks none left n w small fine clear is = absurd (omega arith)
 
 -- ## Lawful among ten conditions
-
-speaks_ten : (n : ℕ) (l : Literal) → n ≤ 10 → speaks_within n l ≡ true → speaks_within 10 l ≡ true
-speaks_ten n (pos p) small within =
-    let parts = and_parts (ltb 0 p) (leb p n) within in
-    let low : p ≤ n = leb-true p n parts.1 in
-    and_from _ _ parts.0 (le-leb p 10 (omega arith))
-speaks_ten n (negsuc m) small within =
-    let low : suc m ≤ n = leb-true (suc m) n within in
-    le-leb (suc m) 10 (omega arith)
-
--- where each that passes one test passes another, a list that passes the one passes the other
-every_also : {X : Type 0} (test other : X → Bool) → ((x : X) → test x ≡ true → other x ≡ true) → (xs : List X) → every test xs ≡ true → every other xs ≡ true
-every_also test other also [] all = refl
-every_also test other also (x ∷ xs) all =
-    let parts = and_parts (test x) (every test xs) all in
-    and_from _ _ (also x parts.0) (every_also test other also xs parts.1)
 
 effect_ten : (n : ℕ) (e : Effect) → n ≤ 10 → lawful_effect n e ≡ true → lawful_effect 10 e ≡ true
 effect_ten n e small fine =
     let parts = and_parts (lawful_list n 4 e.conditions) (speaks_within n e.result) fine in
     let list = and_parts (leb (length e.conditions) 4) (every (speaks_within n) e.conditions && consistent e.conditions) parts.0 in
     let lists = and_parts (every (speaks_within n) e.conditions) (consistent e.conditions) list.1 in
-    let within = every_also (speaks_within n) (speaks_within 10) (λ l h. speaks_ten n l small h) e.conditions lists.0 in
-    and_from _ _ (and_from _ _ list.0 (and_from _ _ within lists.1)) (speaks_ten n e.result small parts.1)
+    let within = all_speak_wider n e.conditions small lists.0 in
+    and_from _ _ (and_from _ _ list.0 (and_from _ _ within lists.1)) (speaks_wider n e.result small parts.1)
 
 -- what a lawful outcome is: few effects, each lawful, none against another
 pub lawful_few : (n : ℕ) (effects : List code_effect.Effect) → lawful_outcome n (map effect_of effects) ≡ true → length effects ≤ 4
@@ -314,13 +290,9 @@ lawful_apart n o fine =
     (and_parts (every (lawful_effect n) o) (apart n o) (and_parts (leb (length o) 4) (every (lawful_effect n) o && apart n o) fine).1).1
 
 pub lawful_ten : (n : ℕ) (o : Outcome) → n ≤ 10 → lawful_outcome n o ≡ true → every (lawful_effect 10) o ≡ true
-lawful_ten n o small fine = every_also (lawful_effect n) (lawful_effect 10) (λ e h. effect_ten n e small h) o (lawful_effects n o fine)
+lawful_ten n o small fine = every_more (lawful_effect n) (lawful_effect 10) (λ e h. effect_ten n e small h) o (lawful_effects n o fine)
 
 -- ## Whether one of some numbers passes a test
-
-or_regroups : (x y z : Bool) → (x || (y || z)) ≡ ((x || y) || z)
-or_regroups true y z = refl
-or_regroups false y z = refl
 
 some_none : (start : ℕ) (test : ℕ → Bool) → some_from start 0 test ≡ false
 unfolding some_from
@@ -333,11 +305,11 @@ some_more start m test = refl
 some_split : (start m p : ℕ) (test : ℕ → Bool) → some_from start (m + p) test ≡ (some_from start m test || some_from (start + m) p test)
 some_split start m zero test =
     ap (λ (q : ℕ). some_from start q test) (add-zero m)
-    ∙ sym (or_none (some_from start m test)) ∙ ap (λ (b : Bool). some_from start m test || b) (sym (some_none (start + m) test))
+    ∙ sym (or-false (some_from start m test)) ∙ ap (λ (b : Bool). some_from start m test || b) (sym (some_none (start + m) test))
 some_split start m (suc p) test =
     ap (λ (q : ℕ). some_from start q test) (add-suc m p) ∙ some_more start (m + p) test
     ∙ ap₂ (λ (a b : Bool). a || b) (some_split start m p test) (ap test (sym (add_assoc start m p)))
-    ∙ sym (or_regroups (some_from start m test) (some_from (start + m) p test) (test (start + m + p)))
+    ∙ or_assoc (some_from start m test) (some_from (start + m) p test) (test (start + m + p))
     ∙ ap (λ (b : Bool). some_from start m test || b) (sym (some_more (start + m) p test))
 
 -- one that passes, where some does
@@ -367,13 +339,13 @@ Puts n o row start m old new = (x : ℕ) → in_words new x ≡ (in_words old x 
 
 pub puts_none : (n : ℕ) (o : Outcome) (row : List ℕ) (start : ℕ) (old : List ℕ) → Puts n o row start 0 old old
 puts_none n o row start old x =
-    sym (or_none (in_words old x)) ∙ ap (λ (b : Bool). in_words old x || b) (sym (some_none start (gives n o row x)))
+    sym (or-false (in_words old x)) ∙ ap (λ (b : Bool). in_words old x || b) (sym (some_none start (gives n o row x)))
 
 -- one world more
 puts_more : (n : ℕ) (o : Outcome) (row : List ℕ) (start m : ℕ) (old mid new : List ℕ) → Puts n o row start m old mid → ((x : ℕ) → in_words new x ≡ (in_words mid x || gives n o row x (start + m))) → Puts n o row start (m + 1) old new
 puts_more n o row start m old mid new before put x =
     put x ∙ ap (λ (b : Bool). b || gives n o row x (start + m)) (before x)
-    ∙ sym (or_regroups (in_words old x) (some_from start m (gives n o row x)) (gives n o row x (start + m)))
+    ∙ or_assoc (in_words old x) (some_from start m (gives n o row x)) (gives n o row x (start + m))
     ∙ ap (λ (b : Bool). in_words old x || b) (sym (some_more start m (gives n o row x)))
     ∙ ap (λ (q : ℕ). in_words old x || some_from start q (gives n o row x)) (sym (add-one m))
 
@@ -412,7 +384,7 @@ empty_some n o row k x (suc m) empty h =
 
 pub puts_empty : (n : ℕ) (o : Outcome) (row : List ℕ) (k : ℕ) (old : List ℕ) → get_or row k 0 ≡ 0 → Puts n o row (64 * k) 64 old old
 puts_empty n o row k old empty x =
-    sym (or_none (in_words old x)) ∙ ap (λ (b : Bool). in_words old x || b) (sym (empty_some n o row k x 64 empty (omega arith)))
+    sym (or-false (in_words old x)) ∙ ap (λ (b : Bool). in_words old x || b) (sym (empty_some n o row k x 64 empty (omega arith)))
 
 -- one word more
 pub puts_word : (n : ℕ) (o : Outcome) (row : List ℕ) (k : ℕ) (old mid new : List ℕ) → Puts n o row 0 (64 * k) old mid → Puts n o row (64 * k) 64 mid new → Puts n o row 0 (64 * (k + 1)) old new
@@ -421,7 +393,7 @@ puts_word n o row k old mid new before word x =
     let next : 64 * k + 64 ≡ 64 * (k + 1) = omega arith in
     let from : 64 * k ≡ 0 + 64 * k = omega arith in
     word x ∙ ap (λ (b : Bool). b || some_from (64 * k) 64 test) (before x)
-    ∙ sym (or_regroups (in_words old x) (some_from 0 (64 * k) test) (some_from (64 * k) 64 test))
+    ∙ or_assoc (in_words old x) (some_from 0 (64 * k) test) (some_from (64 * k) 64 test)
     ∙ ap (λ (q : ℕ). in_words old x || (some_from 0 (64 * k) test || some_from q 64 test)) from
     ∙ ap (λ (b : Bool). in_words old x || b) (sym (some_split 0 (64 * k) 64 test))
     ∙ ap (λ (q : ℕ). in_words old x || some_from 0 q test) next
@@ -446,59 +418,17 @@ PutRest n outcomes rest row new =
 abbrev pub PutFirst : (n : ℕ) → List code_outcome.Outcome → ℕ → List ℕ → List ℕ → Type 0
 PutFirst n outcomes i row new = PutRest n outcomes (drop i outcomes) row new
 
--- a row of zeros is empty
-zeros_at : (m i : ℕ) → get_or {A = ℕ} (replicate m 0) i 0 ≡ 0
-zeros_at zero i = refl
-zeros_at (suc m) zero = refl
-zeros_at (suc m) (suc i) = zeros_at m i
-
-none_in_zeros : (x : ℕ) → in_words (replicate 16 0) x ≡ false
-none_in_zeros x = ap (λ (word : ℕ). bit word (x % 64)) (zeros_at 16 (x / 64)) ∙ bit_zero (x % 64)
-
-pub given_none : (n : ℕ) (outcomes : List code_outcome.Outcome) (row : List ℕ) → PutFirst n outcomes 0 row (replicate 16 0)
-given_none n outcomes row x = ap (λ (b : Bool). b || given n (map outcome_of outcomes) row x) (sym (none_in_zeros x))
-
-pub outcome_at : (n : ℕ) (outcomes : List code_outcome.Outcome) (i : ℕ) (d : code_outcome.Outcome) → i < length outcomes → every (lawful_outcome n) (map outcome_of outcomes) ≡ true → lawful_outcome n (outcome_of (get_or outcomes i d)) ≡ true
-outcome_at n outcomes i d h all = every_at (lawful_outcome n) outcome_of outcomes i d h all
-
-pub given_more : (n : ℕ) (outcomes : List code_outcome.Outcome) (i : ℕ) (d : code_outcome.Outcome) (row mid new : List ℕ) → i < length outcomes → PutFirst n outcomes i row mid → Puts n (outcome_of (get_or outcomes i d)) row 0 1024 mid new → PutFirst n outcomes (i + 1) row new
-given_more n outcomes i d row mid new h before put =
-    let o : Outcome = outcome_of (get_or outcomes i d) in
-    let rest : List code_outcome.Outcome = drop (suc i) outcomes in
-    let here : PutRest n outcomes (get_or outcomes i d ∷ rest) row mid =
-    subst (λ (os : List code_outcome.Outcome). PutRest n outcomes os row mid) (drop-cons outcomes i d h) before in
-    let there : PutRest n outcomes rest row new =
-    λ x. here x ∙ or_regroups (in_words mid x) (some_from 0 1024 (gives n o row x)) (given n (map outcome_of rest) row x)
-    ∙ ap (λ (b : Bool). b || given n (map outcome_of rest) row x) (sym (put x)) in
-    subst (λ (j : ℕ). PutFirst n outcomes j row new) (sym (add-one i)) there
+pub outcome_at : (n : ℕ) (outcomes : List code_outcome.Outcome) (i : ℕ) (o : code_outcome.Outcome) → o ≡ get_or outcomes i o → i < length outcomes → every (lawful_outcome n) (map outcome_of outcomes) ≡ true → lawful_outcome n (outcome_of o) ≡ true
+outcome_at n outcomes i o is h all =
+    subst (λ (p : code_outcome.Outcome). lawful_outcome n (outcome_of p) ≡ true) (sym is) (every_at (lawful_outcome n) outcome_of outcomes i o h all)
 
 pub given_all : (n : ℕ) (outcomes : List code_outcome.Outcome) (i : ℕ) (row new : List ℕ) → i ≡ length outcomes → PutFirst n outcomes i row new → (x : ℕ) → in_words new x ≡ given n (map outcome_of outcomes) row x
 given_all n outcomes i row new end all x =
     let none : drop i outcomes ≡ [] = ap (λ (j : ℕ). drop j outcomes) end ∙ drop-length outcomes in
     let was : PutRest n outcomes [] row new = subst (λ (os : List code_outcome.Outcome). PutRest n outcomes os row new) none all in
-    sym (or_none (in_words new x)) ∙ sym (was x)
+    sym (or-false (in_words new x)) ∙ sym (was x)
 
 -- ## What all outcomes give is the successor
-
-same_value_self : (b : Bool) → same_value b b ≡ true
-same_value_self true = refl
-same_value_self false = refl
-
-same_value_is : (a b : Bool) → same_value a b ≡ true → a ≡ b
-same_value_is true b same = sym same
-same_value_is false true same = absurd (false≢true same)
-same_value_is false false same = refl
-
--- the test for one world passes exactly where it is one
-same_world_self : (n : ℕ) (w : World n) → same_world n w w ≡ true
-same_world_self zero w = refl
-same_world_self (suc n) w = and_from _ _ (same_value_self w.0) (same_world_self n w.1)
-
-same_world_is : (n : ℕ) (v w : World n) → same_world n v w ≡ true → v ≡ w
-same_world_is zero v w same = refl
-same_world_is (suc n) v w same =
-    let parts = and_parts (same_value v.0 w.0) (same_world n v.1 w.1) same in
-    ap₂ (λ (b : Bool) (u : World n). (b, u)) (same_value_is v.0 w.0 parts.0) (same_world_is n v.1 w.1 parts.1)
 
 -- what it is for an outcome to give a number
 gives_parts : (n : ℕ) (o : Outcome) (row : List ℕ) (x j : ℕ) → gives n o row x j ≡ true → (j < 2 ^ n) × (in_words row j ≡ true) × (x ≡ number n (after n o (world_of n j)))
@@ -510,19 +440,6 @@ gives_parts n o row x j so =
 -- worlds with one number are one
 same_number : (n : ℕ) (v w : World n) → number n v ≡ number n w → v ≡ w
 same_number n v w same = sym (world_of_number n v) ∙ ap (world_of n) same ∙ world_of_number n w
-
--- no number beyond the worlds is given
-pub given_far : (n : ℕ) (os : List Outcome) (row : List ℕ) (x : ℕ) → 2 ^ n ≤ x → given n os row x ≡ false
-given_far n [] row x far = refl
-given_far n (o ∷ os) row x far =
-    or_from _ _
-    (cannot_pass _
-    (λ some.
-    let found = some_found 1024 (gives n o row x) some in
-    let is = (gives_parts n o row x found.0 found.1).2 in
-    let near = number_lt n (after n o (world_of n found.0)) in
-    omega arith))
-    (given_far n os row x far)
 
 given_found : (n : ℕ) (os : List Outcome) (row : List ℕ) (v : World n) → given n os row (number n v) ≡ true → (j : ℕ) × (j < 2 ^ n) × (in_words row j ≡ true) × (may_give n os (world_of n j) v ≡ true)
 given_found n [] row v some = absurd (false≢true some)

@@ -6,10 +6,11 @@ use Rattle.std.specs.Int.{w16}
 use Rattle.std.proofs.lemmas.Bool.{and_parts, and_from, ltb-true, leb-true, le-leb, or_left, not-false, not_from_true}
 use Rattle.worlds.specs.Worlds.{World, Literal, meets, speaks_within, consistent, compatible}
 use Rattle.worlds.specs.Steps.{Outcome, Step, action, sensing, after}
-use Rattle.worlds.specs.Sets.{Worlds, none_in, same_value, same_world, may_give, successor}
+use Rattle.worlds.specs.Sets.{Worlds, none_in, may_give, successor}
 use Rattle.worlds.specs.Tickets.{Ticket, every, lawful, lawful_list, lawful_outcome, lawful_step, starts, meets_some, step_at}
 use Rattle.worlds.proofs.Compatible.{some_world_from, the_world, some_world_meets}
 use Rattle.bank.specs.Calls.{outcomes_of, sensed_of}
+use Rattle.map_bank.proofs.SameLaws.{same_world_self}
 
 -- ## The parts of a ticket's law
 
@@ -20,9 +21,6 @@ terms_lawful_parts t h =
     let b = and_parts (nat_lt 0 (length t.terms) && (nat_le (length t.terms) 256 && every (lawful_list n 32) t.terms)) _ a in
     let terms = and_parts (nat_lt 0 (length t.terms)) (nat_le (length t.terms) 256 && every (lawful_list n 32) t.terms) b.0 in
     (ltb-true 0 _ terms.0, (and_parts (nat_le (length t.terms) 256) (every (lawful_list n 32) t.terms) terms.1).1)
-
-pub terms_lawful : (t : Ticket) → lawful t ≡ true → every (lawful_list t.conditions 32) t.terms ≡ true
-terms_lawful t h = (terms_lawful_parts t h).1
 
 steps_lawful : (t : Ticket) → lawful t ≡ true → every (lawful_step t.conditions) t.steps ≡ true
 steps_lawful t h =
@@ -76,25 +74,21 @@ speaks_wider n (pos p) few h =
     and_from _ _ parts.0 (le-leb p 10 (omega arith))
 speaks_wider n (negsuc m) few h = let low = leb-true (suc m) n h in le-leb (suc m) 10 (omega arith)
 
+-- where each that passes one test passes another, a list that passes the one passes the other
+pub every_more : {X : Type 0} (test other : X → Bool) → ((x : X) → test x ≡ true → other x ≡ true) → (xs : List X) → every test xs ≡ true → every other xs ≡ true
+every_more test other more [] all = refl
+every_more test other more (x ∷ xs) all =
+    let parts = and_parts (test x) (every test xs) all in
+    and_from (other x) (every other xs) (more x parts.0) (every_more test other more xs parts.1)
+
 pub all_speak_wider : (n : ℕ) (ls : List Literal) → n ≤ 10 → every (speaks_within n) ls ≡ true → every (speaks_within 10) ls ≡ true
-all_speak_wider n [] few h = refl
-all_speak_wider n (l ∷ ls) few h =
-    let parts = and_parts (speaks_within n l) (every (speaks_within n) ls) h in
-    and_from _ _ (speaks_wider n l few parts.0) (all_speak_wider n ls few parts.1)
+all_speak_wider n ls few = every_more (speaks_within n) (speaks_within 10) (λ l h. speaks_wider n l few h) ls
 
 -- ## Sets that are not empty
 
-value_same : (b : Bool) → same_value b b ≡ true
-value_same true = refl
-value_same false = refl
-
-world_same : (n : ℕ) (w : World n) → same_world n w w ≡ true
-world_same zero w = refl
-world_same (suc n) w = and_from _ _ (value_same w.0) (world_same n w.1)
-
 gives_first : (n : ℕ) (os : List Outcome) (w : World n) → 0 < length os → (v : World n) × (may_give n os w v ≡ true)
 gives_first n [] w some = absurd (omega arith)
-gives_first n (o ∷ os) w some = (after n o w, or_left _ _ (world_same n (after n o w)))
+gives_first n (o ∷ os) w some = (after n o w, or_left _ _ (same_world_self n (after n o w)))
 
 -- what an action makes of a set that has a world has one
 pub successor_some : (n : ℕ) (os : List Outcome) (s : Worlds n) → 0 < length os → none_in n s ≡ false → none_in n (successor n os s) ≡ false

@@ -1,17 +1,12 @@
 -- The rule of the table of truth words, at all of its places by one test that antt computes.
 -- Assumes nothing.
-use Rattle.std.specs.Prelude.{◌≡◌, ℕ, zero, suc, ◌+◌, ◌-◌, ◌*◌, ◌/◌, ◌%◌, ◌<◌, ◌≤◌, Bool, true, false, List, [], ◌∷◌, length, slice_index, refl}
+use Rattle.std.specs.Prelude.{◌≡◌, ℕ, zero, suc, ◌+◌, ◌-◌, ◌*◌, ◌/◌, ◌%◌, ◌<◌, ◌≤◌, true, List, [], ◌∷◌, length, slice_index}
 use Rattle.std.proofs.Common.{sym, ◌∙◌, ap₂, subst, inl, inr, add-zero, zero-add, add-suc, suc-add, arith}
-use Rattle.std.proofs.lemmas.Bool.{and_parts, cases_lt, false≢true}
+use Rattle.std.proofs.lemmas.Bool.{and_parts, cases_lt}
 use Rattle.worlds.specs.Sets.{same_value}
 use Rattle.map_bank.specs.Bits.{bit}
 use Rattle.map_bank.specs.TruthTable.{word_right, words_right}
-
--- truth values that the test takes for the same are equal
-pub same_value_is : (a b : Bool) → same_value a b ≡ true → a ≡ b
-same_value_is true b h = sym h
-same_value_is false true h = absurd (false≢true h)
-same_value_is false false h = refl
+use Rattle.map_bank.proofs.SameLaws.{same_value_is}
 
 bit_right : (place word m : ℕ) → word_right place word m ≡ true → (b : ℕ) → b < m → bit word b ≡ bit (64 * (place % 16) + b) (place / 16)
 bit_right place word zero right b h = absurd (omega arith)

@@ -1,9 +1,10 @@
 -- Words of bits as sets of worlds: a world put in, and the worlds that meet literals.
 -- Assumes nothing.
-use Rattle.std.proofs.Common.{◌≡◌, ℕ, suc, ◌+◌, ◌-◌, ◌*◌, ◌/◌, ◌%◌, ◌^◌, ◌<◌, ◌≤◌, Bool, true, false, not, ◌&&◌, ◌||◌, eqb, ltb, leb, List, [], ◌∷◌, length, get_or, drop, set, pos, negsuc, nat_abs, sym, refl, ap, ◌∙◌, subst, inl, inr, add-one, arith, drop-cons, get_or-set_other, get_or-set_same}
+use Rattle.std.proofs.Common.{◌≡◌, ℕ, suc, ◌+◌, ◌-◌, ◌*◌, ◌/◌, ◌%◌, ◌^◌, ◌<◌, ◌≤◌, Bool, true, false, not, ◌&&◌, ◌||◌, eqb, ltb, leb, List, [], ◌∷◌, length, get_or, drop, set, pos, negsuc, nat_abs, sym, ap, ◌∙◌, subst, inl, inr, add-one, arith, drop-cons, get_or-set_other, get_or-set_same}
 use lib.Bits.{bit_and, bit_or}
 use lib.Signed.{lt_z}
 use lib.Seq.{drop-length}
+use Rattle.std.proofs.Math.Bool.{or-false, and-true, and_assoc}
 use Rattle.std.proofs.lemmas.Bool.{cases_eq, and_parts, ltb-true, ltb-false, ne_eqb}
 use Rattle.std.proofs.lemmas.Bool.Decides.{nat_tests}
 use Rattle.worlds.specs.Worlds.{World, Literal, holds, meets, speaks_within}
@@ -12,20 +13,6 @@ use Rattle.map_bank.specs.Bits.{bit}
 use Rattle.map_bank.specs.Numbers.{number, number_holds, in_words}
 use Rattle.map_bank.proofs.BitLaws.{bit_of_and, bit_zero, bit_put, bit_complement}
 use Rattle.map_bank.proofs.NumberLaws.{holds_bits}
-
--- ## Truth values
-
-pub or_none : (x : Bool) → (x || false) ≡ x
-or_none true = refl
-or_none false = refl
-
-and_all : (x : Bool) → (x && true) ≡ x
-and_all true = refl
-and_all false = refl
-
-and_regroups : (x y z : Bool) → (x && (y && z)) ≡ ((x && y) && z)
-and_regroups true y z = refl
-and_regroups false y z = refl
 
 -- ## A world put into a set
 
@@ -50,7 +37,7 @@ in_with_world words world within k =
       | inr other ↦
           let none : eqb k world ≡ false = ne_eqb k world (λ e. other (ap (λ (x : ℕ). x / 64) e)) in
           ap (λ (x : ℕ). bit x (k % 64)) (get_or-set_other words (world / 64) (k / 64) put 0 other)
-          ∙ sym (or_none (in_words words k)) ∙ ap (λ (b : Bool). in_words words k || b) (sym none)
+          ∙ sym (or-false (in_words words k)) ∙ ap (λ (b : Bool). in_words words k || b) (sym none)
     ]
 
 -- ## The worlds in which a literal is so
@@ -90,11 +77,11 @@ masks_more mask more k list rest l within before right n w b hb is =
     let so : holds n w l ≡ bit more b =
     holds_bits 10 n w l within ∙ ap (λ (m : ℕ). number_holds m l) is ∙ sym (right b hb) in
     before n w b hb is ∙ ap (λ (x : Bool). bit mask b && (x && meets n w rest)) so
-    ∙ and_regroups (bit mask b) (bit more b) (meets n w rest)
+    ∙ sym (and_assoc (bit mask b) (bit more b) (meets n w rest))
     ∙ ap (λ (x : Bool). x && meets n w rest) (sym (bit_of_and mask more b))
 
 masks_all : (mask k : ℕ) (list : List Literal) → Masks mask k list [] → (n : ℕ) (w : World n) (b : ℕ) → b < 64 → number n w ≡ 64 * k + b → bit mask b ≡ meets n w list
-masks_all mask k list masks n w b hb is = sym (masks n w b hb is ∙ and_all (bit mask b))
+masks_all mask k list masks n w b hb is = sym (masks n w b hb is ∙ and-true (bit mask b))
 
 -- word k after the first i literals of a list: their worlds, and the literals left to come are of conditions 1 to 10
 abbrev pub MasksFirst : ℕ → ℕ → List Literal → ℕ → Type 0
@@ -102,9 +89,6 @@ MasksFirst mask k list i = (every (speaks_within 10) (drop i list) ≡ true) × 
 
 pub first_none : (k : ℕ) (list : List Literal) → every (speaks_within 10) list ≡ true → MasksFirst (2 ^ 64 - 1) k list 0
 first_none k list within = (within, masks_none k list)
-
-pub first_within : (mask k : ℕ) (list : List Literal) (i : ℕ) → i < length list → MasksFirst mask k list i → speaks_within 10 (get_or list i (pos 0)) ≡ true
-first_within mask k list i h first = (every_from (speaks_within 10) list i (pos 0) h first.0).0
 
 pub first_more : (mask more k : ℕ) (list : List Literal) (i : ℕ) → i < length list → MasksFirst mask k list i → ((b : ℕ) → b < 64 → bit more b ≡ number_holds (64 * k + b) (get_or list i (pos 0))) → MasksFirst (bit_and mask more) k list (i + 1)
 first_more mask more k list i h first right =

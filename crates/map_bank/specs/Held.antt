@@ -1,12 +1,12 @@
 -- Rows that lie one after another in a list of words.
-use Rattle.std.specs.Prelude.{◌≡◌, ℕ, zero, suc, ◌+◌, ◌-◌, ◌^◌, ◌<◌, false, List, [], ◌∷◌, length, take, drop, slice_index_or}
+use Rattle.std.specs.Prelude.{◌≡◌, ℕ, zero, suc, ◌+◌, ◌-◌, ◌^◌, ◌<◌, false, List, [], length, drop, slice_index_or}
+use Rattle.std.specs.Simd.{first_chunks}
 use Rattle.std.proofs.Common.{refl, ap}
 use Rattle.map_bank.specs.Numbers.{in_words}
 
 -- the first rows of a list of words: sixteen words each
 abbrev pub rows_of : ℕ → List ℕ → List (List ℕ)
-rows_of zero words = []
-rows_of (suc count) words = take 16 words ∷ rows_of count (drop 16 words)
+rows_of count words = first_chunks 16 count words
 
 -- they are as many as are asked for
 pub length_rows : (count : ℕ) (words : List ℕ) → length (rows_of count words) ≡ count

@@ -4,7 +4,7 @@ pub mod Canon
 pub mod Held
 pub mod MapBanks
 pub mod Numbers
+pub mod RowSets
 pub mod Rows
 pub mod Successors
-pub mod StepParts
 pub mod TruthTable

@@ -1,5 +1,5 @@
 -- What a map bank means, and its nature.
-use Rattle.std.specs.Prelude.{◌≡◌, ℕ, ◌+◌, ◌*◌, ◌/◌, ◌<◌, ◌≤◌, min, Bool, false, cond, not, ◌&&◌, List, [], ◌∷◌, ◌++◌, map, length, Some, None, vec_items, vec_len, Option, Result, nat_le, nat_lt, slice_index_or}
+use Rattle.std.specs.Prelude.{◌≡◌, ℕ, ◌/◌, min, Bool, false, cond, not, ◌&&◌, List, [], ◌∷◌, ◌++◌, map, length, Some, None, vec_items, vec_len, Option, Result, nat_le, nat_lt, slice_index_or}
 use Rattle.worlds.specs.Worlds.{Literal}
 use Rattle.worlds.specs.Steps.{Outcome}
 use Rattle.worlds.specs.Sets.{Worlds, none_in, successor, side}
@@ -12,8 +12,9 @@ use Rattle.bank.specs.Calls.{unless, left_by, refuse_if, place_of, is_held, outc
 use Rattle.map_bank.specs.Canon.{row_of}
 use Rattle.map_bank.specs.Held.{rows_of}
 use Rattle.map_bank.specs.Numbers.{set_of}
-use Rattle.map_bank.specs.Rows.{Tidy}
+use Rattle.map_bank.specs.RowSets.{worlds_of}
 use Rattle.map_bank.specs.declared.map_bank.MapBank as code
+use Rattle.map_bank.specs.declared.row.Row.{Row}
 
 -- how many rows lie in so many words, and 256 at most
 abbrev pub capacity_of : ℕ → ℕ
@@ -52,6 +53,10 @@ map_nature = record { over = λ t. nat_lt 10 t.conditions; wide = λ t rows c. f
 abbrev pub row_kept : ℕ → List (List ℕ) → Option (List ℕ)
 row_kept i rows = cond (nat_lt i (length rows)) (Some (slice_index_or rows i [])) None
 
+-- the number of a row's set, where a bank holds it
+abbrev pub place_kept : (m : Meaning) → List ℕ → Option ℕ
+place_kept m row = cond (is_held m.ticket.conditions m.held (set_of m.ticket.conditions row)) (Some (place_of m.ticket.conditions m.held (set_of m.ticket.conditions row))) None
+
 -- what a row's set is to the sets of a bank: its number, or that there is no room
 abbrev pub row_fault : (m : Meaning) → List ℕ → Option BankFault
 row_fault m row = refuse_if (nat_le m.capacity (length m.held) && not (is_held m.ticket.conditions m.held (set_of m.ticket.conditions row))) Full
@@ -66,10 +71,12 @@ pushed_to m row = record { ticket = m.ticket; held = m.held ++ set_of m.ticket.c
 abbrev pub row_leaves : (m : Meaning) → List ℕ → Meaning
 row_leaves m row = left_by (row_fault m row) m (cond (is_held m.ticket.conditions m.held (set_of m.ticket.conditions row)) m (pushed_to m row))
 
--- there is room behind the held rows, and a row's set is tidy, not empty and new
-pub record PushReady (b : code.MapBank) (row : List ℕ) : Type 0 where
-  pub room : 16 * b.count + 16 ≤ vec_len b.words
-  pub few : b.count < 256
-  pub tidy : Tidy (ticket_of b.ticket).conditions row
-  pub some : none_in (ticket_of b.ticket).conditions (set_of (ticket_of b.ticket).conditions row) ≡ false
-  pub new : b.count ≤ place_of (ticket_of b.ticket).conditions (map (set_of (ticket_of b.ticket).conditions) (rows_in b)) (set_of (ticket_of b.ticket).conditions row)
+-- a row of a bank's conditions, of a set that is not empty
+pub record Fitting (b : code.MapBank) (row : Row) : Type 0 where
+  pub same : row.conditions ≡ (ticket_of b.ticket).conditions
+  pub some : none_in row.conditions (worlds_of row) ≡ false
+
+-- one that the bank does not hold
+pub record New (b : code.MapBank) (row : Row) : Type 0 where
+  pub fitting : Fitting b row
+  pub absent : None ≡ place_kept (means_of b) row.words

@@ -2,7 +2,7 @@
 
 pub mod map_bank;
 mod places;
-mod rows;
+mod row;
 mod steps;
 mod successors;
 mod table;

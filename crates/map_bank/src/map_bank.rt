@@ -13,7 +13,8 @@ mod keeps;
 #[derive(Drop)]
 pub struct MapBank {
     ticket: Ticket,
-    // the held sets are the first rows; what lies behind them is of no account
+    // The held sets are the first rows, and what lies behind them is of no account. The words stay as they were lent, with
+    // a count beside them, since a bank takes no memory of its own.
     words: Vec<u64>,
     count: usize,
     ghost room: { 16 * count ≤ vec_len words },

@@ -1,54 +1,35 @@
 // What a bank asks of a ticket's steps and of lists of literals.
-ghost use Rattle.std.specs.Prelude.{◌≡◌};
+ghost use Rattle.std.specs.Prelude.{◌≡◌, map, option_map};
+ghost use Rattle.worlds.specs.Meaning.{listed, outcome_of, step_of};
 ghost use Rattle.worlds.specs.Worlds.{speaks_within};
 ghost use Rattle.worlds.specs.Tickets.{every, step_at};
 ghost use Rattle.ticket.specs.Tickets.{ticket_of};
 ghost use Rattle.bank.specs.Calls.{outcomes_of, sensed_of};
-ghost use Rattle.map_bank.specs.StepParts.{step_in, outcomes_in};
 
 use ticket::ticket::Ticket;
 use worlds::few::Few;
+use worlds::literals::speaks_within;
 use worlds::step::{Literal, Outcome, Step};
 
-// Whether a literal speaks of one of the conditions 1 to n.
-fn speaks(literal: Literal, n: u16) -> bool
-    ensures { result ≡ speaks_within n literal }
-{
-    literal != 0 && literal.unsigned_abs() <= n
-}
-
-// Whether every literal of a list does.
+// Whether every literal of a list speaks of one of the conditions 1 to n.
 pub(crate) fn speak_within(list: &[Literal], n: u16) -> bool
     ensures { result ≡ every (speaks_within n) list.now }
 {
-    for literal in list {
-        if !speaks(*literal, n) {
-            return false;
-        }
-    }
-    true
+    list.iter().all(|literal| speaks_within(n, *literal))
 }
 
 // The step of a number.
 fn step_at(ticket: &Ticket, step: usize) -> Option<Step>
-    ensures { step_in result ≡ step_at (ticket_of ticket.now).steps step }
+    ensures { option_map step_of result ≡ step_at (ticket_of ticket.now).steps step }
 {
-    let steps = ticket.steps();
-    if step < steps.len() {
-        Some(steps[step])
-    } else {
-        None
-    }
+    ticket.steps().get(step).copied()
 }
 
 // The outcomes of the action of a number.
 pub(crate) fn outcomes_at(ticket: &Ticket, step: usize) -> Option<Few<Outcome, 4>>
-    ensures { outcomes_in result ≡ outcomes_of (step_at (ticket_of ticket.now).steps step) }
+    ensures { option_map (λ os. map outcome_of (listed os)) result ≡ outcomes_of (step_at (ticket_of ticket.now).steps step) }
 {
-    let Some(found) = step_at(ticket, step) else {
-        return None;
-    };
-    match found {
+    match step_at(ticket, step)? {
         Step::Action(action) => Some(action.outcomes),
         Step::Sensing(_) => None,
     }
@@ -58,10 +39,7 @@ pub(crate) fn outcomes_at(ticket: &Ticket, step: usize) -> Option<Few<Outcome, 4
 pub(crate) fn sensed_at(ticket: &Ticket, step: usize) -> Option<Literal>
     ensures { result ≡ sensed_of (step_at (ticket_of ticket.now).steps step) }
 {
-    let Some(found) = step_at(ticket, step) else {
-        return None;
-    };
-    match found {
+    match step_at(ticket, step)? {
         Step::Action(_) => None,
         Step::Sensing(sensing) => Some(sensing.sensed),
     }

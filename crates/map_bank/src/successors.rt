@@ -5,11 +5,12 @@ ghost use Rattle.worlds.specs.Sets.{successor};
 ghost use Rattle.worlds.specs.Steps.{after};
 ghost use Rattle.worlds.specs.Tickets.{every, lawful_effect, apart, lawful_outcome};
 ghost use Rattle.worlds.specs.Worlds.{World, speaks_within};
-ghost use Rattle.map_bank.specs.Numbers.{number, in_words, set_of};
-ghost use Rattle.map_bank.specs.Rows.{Tidy};
+ghost use Rattle.map_bank.specs.Numbers.{number, in_words};
+ghost use Rattle.map_bank.specs.RowSets.{worlds_of, Keeps};
 ghost use Rattle.map_bank.specs.Successors.{made, Masked, gives, some_from};
 
-use crate::words::{has, meet_mask, put};
+use crate::row::Row;
+use crate::words::{has, meet_mask};
 use worlds::step::{Effect, Literal, Outcome};
 
 // The number of a world with one literal made so.
@@ -31,8 +32,8 @@ fn effect_masks(effects: &[Effect], k: usize) -> [u64; 4]
     ensures { Masked k effects.now result }
 {
     let mut masks = [0; 4];
-    for i in 0..effects.len() {
-        masks[i] = meet_mask(effects[i].conditions.as_slice(), k);
+    for (i, effect) in effects.iter().enumerate() {
+        masks[i] = meet_mask(effect.conditions.as_slice(), k);
     }
     masks
 }
@@ -44,51 +45,55 @@ fn world_after(world: usize, effects: &[Effect], masks: &[u64; 4]) -> usize
     ensures { (n : ℕ) (w : World n) → n ≤ 10 → every (lawful_effect n) (map effect_of effects.now) ≡ true → apart n (map effect_of effects.now) ≡ true → number n w ≡ world → result ≡ number n (after n (map effect_of effects.now) w) }
 {
     let mut next = world;
-    for i in 0..effects.len() {
-        let result = effects[i].result;
-        if masks[i] >> (world % 64) & 1 == 1 {
-            next = changed(next, result);
+    for (effect, mask) in effects.iter().zip(masks) {
+        let met = mask >> (world % 64) & 1 == 1;
+        if met {
+            next = changed(next, effect.result);
         }
     }
     next
 }
 
-// Puts the worlds that an outcome gives from the worlds in word k of a row.
-fn put_word(next: &mut [u64; 16], row: &[u64; 16], k: usize, n: u16, effects: &[Effect])
-    requires { (n ≤ 10) × (k < 16) × (lawful_outcome n (map effect_of effects.now) ≡ true) }
-    ensures { (x : ℕ) → in_words next.new x ≡ (in_words next.old x || some_from (64 * k) 64 (gives n (map effect_of effects.now) row.now x)) }
-{
-    let masks = effect_masks(effects, k);
-    for b in 0..64 {
-        let world = 64 * k + b;
-        if world < 1 << n && has(row, world) {
-            put(next, world_after(world, effects, &masks));
+impl Row {
+    // Puts in the worlds that an outcome gives from the worlds in word k of another set.
+    fn put_word(&mut self, from: &Row, k: usize, effects: &[Effect])
+        requires { (self.old.conditions ≡ from.now.conditions) × (k < 16) × (lawful_outcome from.now.conditions (map effect_of effects.now) ≡ true) }
+        ensures conditions { self.new.conditions ≡ self.old.conditions }
+        ensures worlds { (x : ℕ) → in_words self.new.words x ≡ (in_words self.old.words x || some_from (64 * k) 64 (gives from.now.conditions (map effect_of effects.now) from.now.words x)) }
+    {
+        let masks = effect_masks(effects, k);
+        for b in 0..64 {
+            let world = 64 * k + b;
+            if has(&from.words, world) {
+                self.put(world_after(world, effects, &masks));
+            }
         }
     }
-}
 
-// Puts the worlds that an outcome gives from the worlds of a row.
-fn put_outcome(next: &mut [u64; 16], row: &[u64; 16], n: u16, effects: &[Effect])
-    requires { (n ≤ 10) × (lawful_outcome n (map effect_of effects.now) ≡ true) }
-    ensures { (x : ℕ) → in_words next.new x ≡ (in_words next.old x || some_from 0 1024 (gives n (map effect_of effects.now) row.now x)) }
-{
-    for k in 0..16 {
-        // Small sets, and sets of few conditions, leave most words empty.
-        if row[k] != 0 {
-            put_word(next, row, k, n, effects);
+    // Puts in the worlds that an outcome gives from the worlds of another set.
+    fn put_outcome(&mut self, from: &Row, outcome: &Outcome)
+        requires { (self.old.conditions ≡ from.now.conditions) × (lawful_outcome from.now.conditions (outcome_of outcome.now) ≡ true) }
+        ensures conditions { self.new.conditions ≡ self.old.conditions }
+        ensures worlds { (x : ℕ) → in_words self.new.words x ≡ (in_words self.old.words x || some_from 0 1024 (gives from.now.conditions (outcome_of outcome.now) from.now.words x)) }
+    {
+        let effects = outcome.effects.as_slice();
+        for (k, word) in from.words.iter().enumerate() {
+            // Small sets, and sets of few conditions, leave most words empty.
+            if *word != 0 {
+                self.put_word(from, k, effects);
+            }
         }
     }
-}
 
-// The worlds that any of some outcomes gives from the worlds of a row.
-pub(crate) fn next_row(row: &[u64; 16], n: u16, outcomes: &[Outcome]) -> [u64; 16]
-    requires { (n ≤ 10) × (every (lawful_outcome n) (map outcome_of outcomes.now) ≡ true) }
-    ensures set { (v : World n) → set_of n result v ≡ successor n (map outcome_of outcomes.now) (set_of n row.now) v }
-    ensures tidy { Tidy n result }
-{
-    let mut next = [0; 16];
-    for outcome in outcomes {
-        put_outcome(&mut next, row, n, outcome.effects.as_slice());
+    // The worlds that any of some outcomes gives from the worlds of the set.
+    pub(crate) fn successor(&self, outcomes: &[Outcome]) -> Row
+        requires { every (lawful_outcome self.now.conditions) (map outcome_of outcomes.now) ≡ true }
+        ensures { Keeps result self.now.conditions (successor self.now.conditions (map outcome_of outcomes.now) (worlds_of self.now)) }
+    {
+        let mut next = Row::empty(self.conditions);
+        for outcome in outcomes {
+            next.put_outcome(self, outcome);
+        }
+        next
     }
-    next
 }

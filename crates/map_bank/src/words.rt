@@ -1,4 +1,5 @@
-// Sets of worlds as sixteen words of 64 bits, a bit for each world number below 1024.
+// Sets of worlds as sixteen words of 64 bits, a bit for each world number below 1024. The number k of a word is a plain number
+// below 16: a type of its own would be made at each turn over the words, only to be read out again at each index.
 ghost use Rattle.std.specs.Prelude.{◌≡◌, ℕ, ◌+◌, ◌*◌, ◌<◌, true, ◌||◌, ◌==◌};
 ghost use Rattle.worlds.specs.Worlds.{World, meets, speaks_within};
 ghost use Rattle.worlds.specs.Tickets.{every};
@@ -9,11 +10,11 @@ use crate::table::truth_word;
 use worlds::step::Literal;
 
 // Word k of the worlds in which a literal is so.
-pub(crate) fn literal_mask(literal: Literal, k: usize) -> u64
+fn literal_mask(literal: Literal, k: usize) -> u64
     requires { (speaks_within 10 literal ≡ true) × (k < 16) }
     ensures { (b : ℕ) → b < 64 → bit result b ≡ number_holds (64 * k + b) literal }
 {
-    let truth = truth_word(literal.unsigned_abs() as usize, k);
+    let truth = truth_word(usize::from(literal.unsigned_abs()), k);
     if literal > 0 { truth } else { !truth }
 }
 

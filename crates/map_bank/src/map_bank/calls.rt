@@ -7,9 +7,7 @@ ghost use Rattle.map_bank.specs.MapBanks.{means_of, map_nature, rows_in, capacit
 ghost use Rattle.map_bank.specs.Numbers.{set_of};
 
 use crate::map_bank::MapBank;
-use crate::rows::{is_empty, row_meets, side_row};
 use crate::steps::{outcomes_at, sensed_at, speak_within};
-use crate::successors::next_row;
 use bank::bank::Bank;
 use bank::fault::BankFault;
 use ticket::ticket::Ticket;
@@ -43,36 +41,24 @@ impl Bank for MapBank {
     }
 
     fn holds(&self, set: usize, list: &[Literal]) -> Result<bool, BankFault> {
-        let Some(row) = self.row(set) else {
-            return Err(BankFault::NoSet);
-        };
+        let row = self.held(set)?;
         if !speak_within(list, self.ticket.conditions()) {
             return Err(BankFault::Conditions);
         }
-        Ok(row_meets(&row, list))
+        Ok(row.meets(list))
     }
 
     fn next(&mut self, set: usize, step: usize) -> Result<usize, BankFault> {
-        let Some(row) = self.row(set) else {
-            return Err(BankFault::NoSet);
-        };
-        let Some(outcomes) = outcomes_at(&self.ticket, step) else {
-            return Err(BankFault::WrongStep);
-        };
-        let n = self.ticket.conditions();
-        let made = next_row(&row, n, outcomes.as_slice());
-        self.put(&made)
+        let row = self.held(set)?;
+        let outcomes = outcomes_at(&self.ticket, step).ok_or(BankFault::WrongStep)?;
+        self.put(&row.successor(outcomes.as_slice()))
     }
 
     fn split(&mut self, set: usize, step: usize, so: bool) -> Result<usize, BankFault> {
-        let Some(row) = self.row(set) else {
-            return Err(BankFault::NoSet);
-        };
-        let Some(literal) = sensed_at(&self.ticket, step) else {
-            return Err(BankFault::WrongStep);
-        };
-        let part = side_row(&row, literal, so);
-        if is_empty(&part) {
+        let row = self.held(set)?;
+        let literal = sensed_at(&self.ticket, step).ok_or(BankFault::WrongStep)?;
+        let part = row.side(literal, so);
+        if part.is_empty() {
             return Err(BankFault::EmptySide);
         }
         self.put(&part)

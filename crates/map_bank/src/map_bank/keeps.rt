@@ -1,24 +1,22 @@
-ghost use Rattle.std.specs.Prelude.{◌≡◌, ◌≤◌, false, [], IfOk, vec_len};
-ghost use Rattle.worlds.specs.Sets.{none_in};
+ghost use Rattle.std.specs.Prelude.{◌≡◌, ◌<◌, ◌≤◌, [], IfOk, IfErr, vec_len};
 ghost use Rattle.bank.specs.Calls.{founded};
 ghost use Rattle.ticket.specs.Tickets.{ticket_of, blank};
-ghost use Rattle.map_bank.specs.Numbers.{set_of};
 ghost use Rattle.map_bank.specs.Rows.{Tidy};
-ghost use Rattle.map_bank.specs.MapBanks.{meaning_with, means_of, map_nature, capacity_of, row_kept, row_answer, row_leaves, PushReady, pushed_to};
+ghost use Rattle.map_bank.specs.MapBanks.{meaning_with, means_of, map_nature, capacity_of, row_kept, place_kept, row_answer, row_leaves, Fitting, New, pushed_to};
 
 use crate::map_bank::MapBank;
-use crate::places::{find, row_at, write_row};
-use crate::rows::start_row;
+use crate::places::{first_rows, write_row};
+use crate::row::Row;
 use bank::fault::BankFault;
 use std::alloc::{AllocError, Global};
 use ticket::ticket::Ticket;
 
 impl MapBank {
     // A bank without sets, which keeps what it will hold in the words that it is given, sixteen for each set.
-    pub fn new(heap: Global, words: Vec<u64>) -> Result<MapBank, AllocError>
+    pub fn new(alloc: Global, words: Vec<u64>) -> Result<MapBank, AllocError>
         ensures { IfOk result (λ b. means_of b ≡ meaning_with blank [] (capacity_of (vec_len words))) }
     {
-        let ticket = Ticket::new(heap)?;
+        let ticket = Ticket::new(alloc)?;
         Ok(MapBank {
             ticket,
             words,
@@ -30,44 +28,73 @@ impl MapBank {
     pub fn row(&self, set: usize) -> Option<[u64; 16]>
         ensures { result ≡ row_kept set (means_of self.now).kept }
     {
-        if set < self.count {
-            Some(row_at(self.words.as_slice(), set))
-        } else {
-            None
-        }
+        let rows = first_rows(self.words.as_slice(), self.count);
+        rows.get(set).copied()
+    }
+
+    // A held set.
+    pub(crate) fn held(&self, set: usize) -> Result<Row, BankFault>
+        ensures there { IfOk result (λ row. (row.conditions ≡ (ticket_of self.now.ticket).conditions) × (Some row.words ≡ row_kept set (means_of self.now).kept)) }
+        ensures absent { IfErr result (λ fault. (fault ≡ BankFault.NoSet) × (None ≡ row_kept set (means_of self.now).kept)) }
+    {
+        let words = self.row(set).ok_or(BankFault::NoSet)?;
+        Ok(Row {
+            words,
+            conditions: self.ticket.conditions(),
+        })
     }
 
     // How many sets there is room for.
     fn capacity(&self) -> usize
         ensures { result ≡ capacity_of (vec_len self.now.words) }
     {
-        let rows = self.words.len() / 16;
-        if rows < 256 { rows } else { 256 }
+        (self.words.len() / 16).min(256)
+    }
+
+    // The number of the set of a row's words, where it is held: rows are the same exactly where their sets are.
+    fn find(&self, wanted: &[u64; 16]) -> Option<usize>
+        requires { Tidy (ticket_of self.now.ticket).conditions wanted.now }
+        ensures { result ≡ place_kept (means_of self.now) wanted.now }
+    {
+        let words = self.words.as_slice();
+        first_rows(words, self.count)
+            .iter()
+            .position(|held| held == wanted)
     }
 
     // Puts a row behind the held ones.
-    fn push(&mut self, row: &[u64; 16])
-        requires { PushReady self.old row.now }
-        ensures { means_of self.new ≡ pushed_to (means_of self.old) row.now }
+    fn push(&mut self, row: &Row)
+        requires { (self.old.count < capacity_of (vec_len self.old.words)) × New self.old row.now }
+        ensures { means_of self.new ≡ pushed_to (means_of self.old) row.now.words }
     {
-        write_row(self.words.as_mut_slice(), self.count, row);
+        write_row(self.words.as_mut_slice(), self.count, &row.words);
         self.count += 1;
     }
 
-    // The number of the set of a row: where it is held already, or behind the held ones if there is room.
-    pub(crate) fn put(&mut self, row: &[u64; 16]) -> Result<usize, BankFault>
-        requires { Tidy (ticket_of self.old.ticket).conditions row.now × (none_in (ticket_of self.old.ticket).conditions (set_of (ticket_of self.old.ticket).conditions row.now) ≡ false) }
-        ensures answer { result ≡ row_answer (means_of self.old) row.now }
-        ensures after { means_of self.new ≡ row_leaves (means_of self.old) row.now }
+    // Puts a row behind the held ones, if there is room, and gives its number.
+    fn append(&mut self, row: &Row) -> Result<usize, BankFault>
+        requires { New self.old row.now }
+        ensures answer { result ≡ row_answer (means_of self.old) row.now.words }
+        ensures after { means_of self.new ≡ row_leaves (means_of self.old) row.now.words }
     {
-        let place = find(self.words.as_slice(), self.count, row);
-        if place == self.count {
-            if self.count >= self.capacity() {
-                return Err(BankFault::Full);
-            }
-            self.push(row);
+        let place = self.count;
+        if place >= self.capacity() {
+            return Err(BankFault::Full);
         }
+        self.push(row);
         Ok(place)
+    }
+
+    // The number of the set of a row: where it is held already, or behind the held ones if there is room.
+    pub(crate) fn put(&mut self, row: &Row) -> Result<usize, BankFault>
+        requires { Fitting self.old row.now }
+        ensures answer { result ≡ row_answer (means_of self.old) row.now.words }
+        ensures after { means_of self.new ≡ row_leaves (means_of self.old) row.now.words }
+    {
+        match self.find(&row.words) {
+            Some(place) => Ok(place),
+            None => self.append(row),
+        }
     }
 
     // Empties the list, makes the ticket another's, and puts its starting worlds in as set 0.
@@ -75,7 +102,7 @@ impl MapBank {
         requires { ((ticket_of ticket.now).conditions ≤ 10) × (16 ≤ vec_len self.old.words) }
         ensures { means_of self.new ≡ founded map_nature (ticket_of ticket.now) (means_of self.old) }
     {
-        let row = start_row(ticket.terms(), ticket.conditions());
+        let row = Row::starting(ticket.terms(), ticket.conditions());
         self.count = 0;
         self.ticket.copy_from(ticket);
         self.push(&row);

@@ -8,7 +8,8 @@ use Rattle.map_bank.proofs.words.literal_mask.Goals as goal
 pub returns-else-literal-gt0 : goal.returns-else-literal-gt0
 returns-else-literal-gt0 c =
     let f : SFits w16 c.args.literal = c.ranges.literal in
-    let size : c.unsigned_abs.result ≡ nat_abs c.args.literal = simp to_z-of_z at c.unsigned_abs.ensures.value in
+    let abs : c.unsigned_abs.result ≡ nat_abs c.args.literal = simp to_z-of_z at c.unsigned_abs.ensures.value in
+    let size : c.from.result ≡ nat_abs c.args.literal = cc in
     denied_holds c.args.literal c.args.k c.truth_word-truth.result c.requires.0
     (simp to_z-of_z at c.if-literal-gt0.false)
     c.truth_word-truth.type_inv

@@ -1,17 +1,11 @@
 -- Each turn keeps, of the worlds so far, those in which the next literal is so.
 use Rattle.std.proofs.Common.{get_or, pos, arith, w16, SFits, rules}
 use Rattle.std.proofs.lemmas.Int.{to_z-of_z}
-use Rattle.map_bank.proofs.WordLaws.{first_none, first_within, first_more, first_all}
+use Rattle.map_bank.proofs.WordLaws.{first_none, first_more, first_all}
 use Rattle.map_bank.proofs.words.meet_mask.Goals as goal
 
 pub loop-literal-init : goal.loop-literal-init
 loop-literal-init c = first_none c.args.k c.args.list.now c.requires.0
-
-pub literal_mask-mask-requires : goal.literal_mask-mask-requires
-literal_mask-mask-requires c =
-    let fits : SFits w16 (get_or c.args.list.now c.loop-literal.literal-index (pos 0)) = search rules in
-    let within = first_within c.loop-literal.mask c.args.k c.args.list.now c.loop-literal.literal-index (omega arith) c.loop-literal.invariant in
-    (simp to_z-of_z within, c.requires.1)
 
 pub loop-literal-preserved : goal.loop-literal-preserved
 loop-literal-preserved c =

@@ -1,4 +1,4 @@
-use Rattle.std.proofs.Common.{◌≡◌, ℕ, ◌^◌, ◌<◌, false, [], ◌∷◌, length, get_or, vec_len, sym, ap, ◌∙◌, subst, arith, rules}
+use Rattle.std.proofs.Common.{◌≡◌, ℕ, ◌^◌, ◌<◌, false, [], ◌∷◌, length, get_or, vec_len, refl, sym, ap, ◌∙◌, subst, arith, rules}
 use Rattle.worlds.specs.Sets.{none_in}
 use Rattle.worlds.specs.Tickets.{Ticket}
 use Rattle.ticket.specs.Tickets.{ticket_of}
@@ -13,23 +13,26 @@ use Rattle.map_bank.proofs.map_bank.MapBank.restart.Goals as goal
 pub push-requires : goal.push-requires
 push-requires c =
     let t = ticket_of c.args.ticket.now in
-    let row = c.start_row-row.result in
-    let is = start_set t c.conditions.result _ row c.conditions.ensures c.terms.ensures c.start_row-row.ensures.worlds in
-    let tidy : Tidy t.conditions row = subst (λ (k : ℕ). Tidy k row) c.conditions.ensures c.start_row-row.ensures.tidy in
-    record {
-      room = omega (arith, c.requires.1);
-      few = omega arith;
-      tidy = subst (λ (u : Ticket). Tidy u.conditions row) (sym c.copy_from.ensures) tidy;
-      some = subst (λ (u : Ticket). none_in u.conditions (set_of u.conditions row) ≡ false) (sym c.copy_from.ensures) (ap (none_in t.conditions) is ∙ starts_some t c.args.ticket.now.lawful);
-      new = omega arith;
-    }
+    let row = c.starting-row.result in
+    let same : row.conditions ≡ t.conditions = c.starting-row.ensures.conditions ∙ c.conditions.ensures in
+    let is = start_set t c.conditions.result _ row.words c.conditions.ensures c.terms.ensures c.starting-row.ensures.worlds in (
+      omega (arith, c.requires.1),
+      record {
+        fitting = record {
+          same = same ∙ ap (λ (u : Ticket). u.conditions) (sym c.copy_from.ensures);
+          some = subst (λ (k : ℕ). none_in k (set_of k row.words) ≡ false) (sym same) (ap (none_in t.conditions) is ∙ starts_some t c.args.ticket.now.lawful);
+        };
+        absent = refl;
+      },
+    )
 
 pub returns : goal.returns
 returns c =
     let t = ticket_of c.args.ticket.now in
-    let row = c.start_row-row.result in
-    let is = start_set t c.conditions.result _ row c.conditions.ensures c.terms.ensures c.start_row-row.ensures.worlds in
-    let tidy : Tidy t.conditions row = subst (λ (k : ℕ). Tidy k row) c.conditions.ensures c.start_row-row.ensures.tidy in
+    let row = c.starting-row.result.words in
+    let same : c.starting-row.result.conditions ≡ t.conditions = c.starting-row.ensures.conditions ∙ c.conditions.ensures in
+    let is = start_set t c.conditions.result _ row c.conditions.ensures c.terms.ensures c.starting-row.ensures.worlds in
+    let tidy : Tidy t.conditions row = subst (λ (k : ℕ). Tidy k row) same c.starting-row.result.tidy in
     let long : length row ≡ 16 = search rules in
     let fits : (i : ℕ) → get_or row i 0 < 2 ^ 64 = search rules in
     let cap = capacity_of (vec_len c.args.self.now.words) in

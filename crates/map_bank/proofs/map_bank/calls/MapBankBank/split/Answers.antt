@@ -1,53 +1,51 @@
-use Rattle.std.proofs.Common.{◌≡◌, ℕ, ◌^◌, ◌<◌, length, get_or, vec_len, sym, ◌∙◌, rules}
+use Rattle.std.proofs.Common.{◌≡◌, ℕ, ◌^◌, ◌<◌, Some, length, get_or, vec_len, sym, ap, ◌∙◌, subst, rules}
+use Rattle.worlds.specs.Worlds.{Literal}
+use Rattle.worlds.specs.Sets.{none_in}
+use Rattle.worlds.specs.Tickets.{step_at}
 use Rattle.ticket.specs.Tickets.{ticket_of}
+use Rattle.bank.specs.Calls.{sensed_of}
+use Rattle.map_bank.specs.declared.map_bank.MapBank.{MapBank}
 use Rattle.map_bank.specs.MapBanks.{rows_in, capacity_of}
+use Rattle.map_bank.specs.Numbers.{set_of}
+use Rattle.map_bank.specs.Rows.{Tidy}
 use Rattle.map_bank.proofs.Asked.{conditions_of, sensed_wide, part_made}
-use Rattle.map_bank.proofs.CallLaws.{row_there, row_absent, split_no_set, split_no_step, split_empty, split_goes}
+use Rattle.map_bank.proofs.CallLaws.{split_empty, split_goes}
 use Rattle.map_bank.proofs.CanonLaws.{row_is_of}
 use Rattle.map_bank.proofs.map_bank.calls.MapBankBank.split.Goals as goal
 
-pub returns-in_default : goal.returns-in_default
-returns-in_default c =
-    let self = c.args.self.now in
-    let p = split_no_set (ticket_of self.ticket) (rows_in self) (capacity_of (vec_len self.words)) c.args.set c.args.step c.args.so (row_absent c.args.set (rows_in self) c.in_default.ensures) in
-    record { answer = p.0; after = p.1 }
+-- that the literal is that of the step
+abbrev Given : MapBank → ℕ → Literal → Type 0
+Given b step l = Some l ≡ sensed_of (step_at (ticket_of b.ticket).steps step)
 
-pub returns-in_default-sensed_at : goal.returns-in_default-sensed_at
-returns-in_default-sensed_at c =
-    let self = c.args.self.now in
-    let r = row_there c.args.set (rows_in self) c.in-Some.row c.in-Some.ensures in
-    let p = split_no_step (ticket_of self.ticket) (rows_in self) (capacity_of (vec_len self.words)) c.args.set c.args.step c.args.so r.0 (sym c.in_default-sensed_at.ensures) in
-    record { answer = p.0; after = p.1 }
-
-pub side_row-part-requires : goal.side_row-part-requires
-side_row-part-requires c = sensed_wide c.args.self.now c.args.step c.in-Some-sensed_at.literal c.in-Some-sensed_at.ensures
+pub side-part-requires : goal.side-part-requires
+side-part-requires c =
+    let given : Given c.args.self.now c.args.step c.in_ok-literal.literal = search rules in
+    sensed_wide c.args.self.now c.args.step c.in_ok-literal.literal given
 
 pub returns-then-is_empty : goal.returns-then-is_empty
 returns-then-is_empty c =
     let self = c.args.self.now in
-    let n = conditions_of self in
-    let part = c.side_row-part.result in
-    let made = part_made self c.args.set c.args.step c.args.so c.in-Some-sensed_at.literal c.in-Some.row part c.in-Some.ensures c.in-Some-sensed_at.ensures (λ k few _. (c.side_row-part.ensures.worlds k few, c.side_row-part.ensures.tidy k)) in
-    let p = split_empty (ticket_of self.ticket) (rows_in self) (capacity_of (vec_len self.words)) c.args.set c.args.step c.args.so c.in-Some-sensed_at.literal part made.there made.sensed made.is
-    (sym (c.is_empty.ensures n self.small made.tidy) ∙ c.if-is_empty.true) in
+    let l = c.in_ok-literal.literal in
+    let part = c.side-part.result in
+    let given : Given self c.args.step l = search rules in
+    let tidy : Tidy c.in_ok-row.row.conditions part.words = subst (λ (k : ℕ). Tidy k part.words) c.side-part.ensures.conditions part.tidy in
+    let made = part_made self c.args.set c.args.step c.in_ok-row.row.conditions c.args.so l c.in_ok-row.row.words part.words c.in_ok-row.ensures.there.1 given c.in_ok-row.ensures.there.0 (c.side-part.ensures.worlds, tidy) in
+    let same : part.conditions ≡ conditions_of self = c.side-part.ensures.conditions ∙ c.in_ok-row.ensures.there.0 in
+    let p = split_empty (ticket_of self.ticket) (rows_in self) (capacity_of (vec_len self.words)) c.args.set c.args.step c.args.so l part.words made.there made.sensed made.is
+    (ap (λ (k : ℕ). none_in k (set_of k part.words)) (sym same) ∙ sym c.is_empty.ensures ∙ c.if-is_empty.true) in
     record { answer = p.0; after = p.1 }
-
-pub put-requires : goal.put-requires
-put-requires c =
-    let self = c.args.self.now in
-    let n = conditions_of self in
-    let part = c.side_row-part.result in
-    let made = part_made self c.args.set c.args.step c.args.so c.in-Some-sensed_at.literal c.in-Some.row part c.in-Some.ensures c.in-Some-sensed_at.ensures (λ k few _. (c.side_row-part.ensures.worlds k few, c.side_row-part.ensures.tidy k)) in
-    (made.tidy, sym (c.is_empty.ensures n self.small made.tidy) ∙ c.if-is_empty.false)
 
 pub returns : goal.returns
 returns c =
     let self = c.args.self.now in
-    let n = conditions_of self in
-    let part = c.side_row-part.result in
-    let made = part_made self c.args.set c.args.step c.args.so c.in-Some-sensed_at.literal c.in-Some.row part c.in-Some.ensures c.in-Some-sensed_at.ensures (λ k few _. (c.side_row-part.ensures.worlds k few, c.side_row-part.ensures.tidy k)) in
-    let long : length part ≡ 16 = search rules in
-    let fits : (i : ℕ) → get_or part i 0 < 2 ^ 64 = search rules in
-    let p = split_goes (ticket_of self.ticket) (rows_in self) (capacity_of (vec_len self.words)) c.args.set c.args.step c.args.so c.in-Some-sensed_at.literal part made.there made.sensed made.is
-    (sym (c.is_empty.ensures n self.small made.tidy) ∙ c.if-is_empty.false) (row_is_of n part long fits made.tidy) in
+    let l = c.in_ok-literal.literal in
+    let part = c.side-part.result in
+    let given : Given self c.args.step l = search rules in
+    let tidy : Tidy c.in_ok-row.row.conditions part.words = subst (λ (k : ℕ). Tidy k part.words) c.side-part.ensures.conditions part.tidy in
+    let made = part_made self c.args.set c.args.step c.in_ok-row.row.conditions c.args.so l c.in_ok-row.row.words part.words c.in_ok-row.ensures.there.1 given c.in_ok-row.ensures.there.0 (c.side-part.ensures.worlds, tidy) in
+    let same : part.conditions ≡ conditions_of self = c.side-part.ensures.conditions ∙ c.in_ok-row.ensures.there.0 in
+    let long : length part.words ≡ 16 = search rules in
+    let fits : (i : ℕ) → get_or part.words i 0 < 2 ^ 64 = search rules in
+    let p = split_goes (ticket_of self.ticket) (rows_in self) (capacity_of (vec_len self.words)) c.args.set c.args.step c.args.so l part.words made.there made.sensed made.is
+    (ap (λ (k : ℕ). none_in k (set_of k part.words)) (sym same) ∙ sym c.is_empty.ensures ∙ c.if-is_empty.false) (row_is_of (conditions_of self) part.words long fits made.tidy) in
     record { answer = c.put.ensures.answer ∙ p.0; after = c.put.ensures.after ∙ p.1 }
