@@ -5,3 +5,4 @@ pub mod Effects
 pub mod Actions
 pub mod Sensings
 pub mod Tops
+pub mod Parts

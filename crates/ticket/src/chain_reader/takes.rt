@@ -29,11 +29,11 @@ fn part_at(file: &[u8], number: u16) -> Part<'_>
     ensures number { result.number ≡ number }
     ensures bytes { result.bytes.now ≡ part file.now number }
 {
-    let at = 8 * usize::from(number);
-    let Some(bytes) = file[at..].first_chunk::<8>() else {
-        unreachable()
-    };
-    Part { number, bytes }
+    let (records, _) = file.as_chunks::<8>();
+    Part {
+        number,
+        bytes: &records[usize::from(number)],
+    }
 }
 
 impl<'a> ChainReader<'a> {
