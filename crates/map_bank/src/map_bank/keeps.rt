@@ -108,3 +108,25 @@ impl MapBank {
         self.push(&row);
     }
 }
+
+#[cfg(test)]
+mod tests {
+    use super::*;
+    use bank::bank::Bank;
+    use std::test::Fail;
+
+    #[test]
+    fn sixteen_words_have_room_for_one_set(rt: HostRuntime) -> Result<(), Fail> {
+        let words = [0; 16].to_vec(rt.alloc())?;
+        let mut bank = MapBank::new(rt.alloc(), words)?;
+        let ticket = Ticket::new(rt.alloc())?;
+        assert!(rt; bank.found(&ticket).is_ok());
+        assert_eq!(rt; bank.count(), 1);
+        assert_eq!(rt;
+            bank.row(0),
+            Some([3, 0, 0, 0, 0, 0, 0, 0, 0, 0, 0, 0, 0, 0, 0, 0]),
+            "condition 1 may be false or true"
+        );
+        Ok(())
+    }
+}
