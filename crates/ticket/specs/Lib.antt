@@ -5,4 +5,5 @@ pub mod Drafts
 pub mod Nodes
 pub mod Gathers
 pub mod Meaning
+pub mod Contents
 pub mod Tickets

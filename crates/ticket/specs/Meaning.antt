@@ -6,9 +6,7 @@ use Rattle.worlds.specs.Steps.{Step}
 use Rattle.worlds.specs.Meaning.{listed, step_of}
 use Rattle.worlds.specs.Tickets.{Ticket}
 use Rattle.records.specs.Content.{first_list}
-use Rattle.records.specs.Judging.{Place}
 use Rattle.ticket.specs.declared.contents.Contents.{Contents}
-use Rattle.ticket.specs.Gathers.{HoldsTop}
 
 abbrev pub terms_of : Contents → List (List Literal)
 terms_of d = map listed (vec_items d.terms)
@@ -19,10 +17,6 @@ aims_of d = map listed (option_to_list d.aim)
 
 abbrev pub steps_of : Contents → List Step
 steps_of d = map step_of (vec_items d.steps)
-
--- the contents are just what these records of a chain at this place hold, in a file f of n conditions
-abbrev pub HoldsContents : Contents → List ℕ → ℕ → Place → List ℕ → Type 0
-HoldsContents d f n place ks = HoldsTop (terms_of d) (aims_of d) (steps_of d) f n place ks
 
 -- the ticket of n conditions with these contents
 abbrev pub ticket_with : ℕ → Contents → Ticket

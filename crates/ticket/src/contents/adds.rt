@@ -3,7 +3,7 @@ ghost use Rattle.std.specs.Prelude.{◌≡◌, ℕ, List};
 ghost use Rattle.records.specs.Judging.{Place};
 ghost use Rattle.records.specs.Layout.{group, kind};
 ghost use Rattle.ticket.specs.Drafts.{Added};
-ghost use Rattle.ticket.specs.Meaning.{HoldsContents};
+ghost use Rattle.ticket.specs.Contents.{HoldsContents};
 ghost use Rattle.ticket.specs.Nodes.{ReadsStep};
 
 use crate::contents::Contents;

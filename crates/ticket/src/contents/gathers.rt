@@ -1,6 +1,7 @@
 ghost use Rattle.std.specs.Prelude.{◌≡◌, ◌||◌, [], ◌∷◌, length, IfOk, ◌==◌};
 ghost use Rattle.ticket.specs.Gathers.{Fills};
-ghost use Rattle.ticket.specs.Meaning.{HoldsContents, terms_of, aims_of, steps_of};
+ghost use Rattle.ticket.specs.Contents.{HoldsContents};
+ghost use Rattle.ticket.specs.Meaning.{terms_of, aims_of, steps_of};
 
 use crate::action_draft::read_action;
 use crate::chain_reader::ChainReader;

@@ -1,4 +1,4 @@
-use Rattle.std.proofs.Common.{◌/◌, ◌<◌, [], length, get_or, ap, ◌∙◌, arith, rules}
+use Rattle.std.proofs.Common.{◌/◌, ◌<◌, [], length, get_or, ap, ◌∙◌, rules}
 use Rattle.records.specs.Layout.{part}
 use Rattle.ticket.proofs.Parts.{chunk_is_part}
 use Rattle.ticket.proofs.chain_reader.takes.part_at.Goals as goal
