@@ -19,28 +19,8 @@ pub(crate) fn speak_within(list: &[Literal], n: u16) -> bool
 }
 
 // The step of a number.
-fn step_at(ticket: &Ticket, step: usize) -> Option<Step>
+pub(crate) fn step_at(ticket: &Ticket, step: usize) -> Option<Step>
     ensures { option_map step_of result ≡ step_at (ticket_of ticket.now).steps step }
 {
     ticket.steps().get(step).copied()
-}
-
-// The outcomes of the action of a number.
-pub(crate) fn outcomes_at(ticket: &Ticket, step: usize) -> Option<Few<Outcome, 4>>
-    ensures { option_map (λ os. map outcome_of (listed os)) result ≡ outcomes_of (step_at (ticket_of ticket.now).steps step) }
-{
-    match step_at(ticket, step)? {
-        Step::Action(action) => Some(action.outcomes),
-        Step::Sensing(_) => None,
-    }
-}
-
-// The literal of the sensing step of a number.
-pub(crate) fn sensed_at(ticket: &Ticket, step: usize) -> Option<Literal>
-    ensures { result ≡ sensed_of (step_at (ticket_of ticket.now).steps step) }
-{
-    match step_at(ticket, step)? {
-        Step::Action(_) => None,
-        Step::Sensing(sensing) => Some(sensing.sensed),
-    }
 }

@@ -26,7 +26,7 @@ fn changed(world: usize, literal: Literal) -> usize
     }
 }
 
-// Of word k, the worlds that meet each effect.
+// Of word k, the worlds that meet each effect. They stand beside the effects, which are lent: four words in place.
 fn effect_masks(effects: &[Effect], k: usize) -> [u64; 4]
     requires { (every (lawful_effect 10) (map effect_of effects.now) ≡ true) × (length effects.now ≤ 4) × (k < 16) }
     ensures { Masked k effects.now result }
@@ -62,6 +62,7 @@ impl Row {
         ensures worlds { (x : ℕ) → in_words self.new.words x ≡ (in_words self.old.words x || some_from (64 * k) 64 (gives from.now.conditions (map effect_of effects.now) from.now.words x)) }
     {
         let masks = effect_masks(effects, k);
+        // The numbers are the worlds; no list holds them.
         for b in 0..64 {
             let world = 64 * k + b;
             if has(&from.words, world) {

@@ -16,6 +16,7 @@ use records::refusal::{Fault, Refusal};
 use worlds::few::Few;
 use worlds::step::{Literal, Sensing, Step, Term};
 
+// A type apart from `ActionDraft`: what must be there differs, and what is made of it; `Draft` is what they share.
 #[derive(Clone, Copy)]
 struct SensingDraft {
     precondition: Term,

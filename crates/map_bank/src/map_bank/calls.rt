@@ -7,11 +7,11 @@ ghost use Rattle.map_bank.specs.MapBanks.{means_of, map_nature, rows_in, capacit
 ghost use Rattle.map_bank.specs.Numbers.{set_of};
 
 use crate::map_bank::MapBank;
-use crate::steps::{outcomes_at, sensed_at, speak_within};
+use crate::steps::{speak_within, step_at};
 use bank::bank::Bank;
 use bank::fault::BankFault;
 use ticket::ticket::Ticket;
-use worlds::step::Literal;
+use worlds::step::{Literal, Step};
 
 impl Bank for MapBank {
     ghost means = { means_of };
@@ -50,14 +50,18 @@ impl Bank for MapBank {
 
     fn next(&mut self, set: usize, step: usize) -> Result<usize, BankFault> {
         let row = self.held(set)?;
-        let outcomes = outcomes_at(&self.ticket, step).ok_or(BankFault::WrongStep)?;
-        self.put(&row.successor(outcomes.as_slice()))
+        let Some(Step::Action(action)) = step_at(&self.ticket, step) else {
+            return Err(BankFault::WrongStep);
+        };
+        self.put(&row.successor(action.outcomes.as_slice()))
     }
 
     fn split(&mut self, set: usize, step: usize, so: bool) -> Result<usize, BankFault> {
         let row = self.held(set)?;
-        let literal = sensed_at(&self.ticket, step).ok_or(BankFault::WrongStep)?;
-        let part = row.side(literal, so);
+        let Some(Step::Sensing(sensing)) = step_at(&self.ticket, step) else {
+            return Err(BankFault::WrongStep);
+        };
+        let part = row.side(sensing.sensed, so);
         if part.is_empty() {
             return Err(BankFault::EmptySide);
         }

@@ -21,17 +21,17 @@ Given b step outcomes = Some (map outcome_of (listed outcomes)) ≡ outcomes_of 
 
 pub successor-requires : goal.successor-requires
 successor-requires c =
-    let given : Given c.args.self.now c.args.step c.in_ok-outcomes.outcomes = search rules in
-    lawful_here c.args.self.now c.args.step c.in_ok-row.row.conditions (map outcome_of (listed c.in_ok-outcomes.outcomes)) (map outcome_of c.as_slice.result.now)
+    let given : Given c.args.self.now c.args.step c.in-Some-Action.action.outcomes = search rules in
+    lawful_here c.args.self.now c.args.step c.in_ok-row.row.conditions (map outcome_of (listed c.in-Some-Action.action.outcomes)) (map outcome_of c.as_slice.result.now)
     given c.in_ok-row.ensures.there.0 (ap (map outcome_of) c.as_slice.ensures)
 
 pub put-requires : goal.put-requires
 put-requires c =
     let self = c.args.self.now in
     let row = c.successor.result in
-    let given : Given self c.args.step c.in_ok-outcomes.outcomes = search rules in
+    let given : Given self c.args.step c.in-Some-Action.action.outcomes = search rules in
     let tidy : Tidy c.in_ok-row.row.conditions row.words = subst (λ (k : ℕ). Tidy k row.words) c.successor.ensures.conditions row.tidy in
-    let made = next_made_so self c.args.set c.args.step c.in_ok-row.row.conditions (map outcome_of (listed c.in_ok-outcomes.outcomes)) (map outcome_of c.as_slice.result.now) c.in_ok-row.row.words row.words
+    let made = next_made_so self c.args.set c.args.step c.in_ok-row.row.conditions (map outcome_of (listed c.in-Some-Action.action.outcomes)) (map outcome_of c.as_slice.result.now) c.in_ok-row.row.words row.words
     c.in_ok-row.ensures.there.1 given c.in_ok-row.ensures.there.0 (ap (map outcome_of) c.as_slice.ensures) (c.successor.ensures.worlds, tidy) in
     let same : row.conditions ≡ conditions_of self = c.successor.ensures.conditions ∙ c.in_ok-row.ensures.there.0 in
     record { same = same; some = subst (λ (k : ℕ). none_in k (set_of k row.words) ≡ false) (sym same) made.some }
@@ -40,8 +40,8 @@ pub returns : goal.returns
 returns c =
     let self = c.args.self.now in
     let row = c.successor.result in
-    let os = map outcome_of (listed c.in_ok-outcomes.outcomes) in
-    let given : Given self c.args.step c.in_ok-outcomes.outcomes = search rules in
+    let os = map outcome_of (listed c.in-Some-Action.action.outcomes) in
+    let given : Given self c.args.step c.in-Some-Action.action.outcomes = search rules in
     let tidy : Tidy c.in_ok-row.row.conditions row.words = subst (λ (k : ℕ). Tidy k row.words) c.successor.ensures.conditions row.tidy in
     let made = next_made_so self c.args.set c.args.step c.in_ok-row.row.conditions os (map outcome_of c.as_slice.result.now) c.in_ok-row.row.words row.words
     c.in_ok-row.ensures.there.1 given c.in_ok-row.ensures.there.0 (ap (map outcome_of) c.as_slice.ensures) (c.successor.ensures.worlds, tidy) in

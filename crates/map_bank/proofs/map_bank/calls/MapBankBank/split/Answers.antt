@@ -19,13 +19,13 @@ Given b step l = Some l ≡ sensed_of (step_at (ticket_of b.ticket).steps step)
 
 pub side-part-requires : goal.side-part-requires
 side-part-requires c =
-    let given : Given c.args.self.now c.args.step c.in_ok-literal.literal = search rules in
-    sensed_wide c.args.self.now c.args.step c.in_ok-literal.literal given
+    let given : Given c.args.self.now c.args.step c.in-Some-Sensing.sensing.sensed = search rules in
+    sensed_wide c.args.self.now c.args.step c.in-Some-Sensing.sensing.sensed given
 
 pub returns-then-is_empty : goal.returns-then-is_empty
 returns-then-is_empty c =
     let self = c.args.self.now in
-    let l = c.in_ok-literal.literal in
+    let l = c.in-Some-Sensing.sensing.sensed in
     let part = c.side-part.result in
     let given : Given self c.args.step l = search rules in
     let tidy : Tidy c.in_ok-row.row.conditions part.words = subst (λ (k : ℕ). Tidy k part.words) c.side-part.ensures.conditions part.tidy in
@@ -38,7 +38,7 @@ returns-then-is_empty c =
 pub returns : goal.returns
 returns c =
     let self = c.args.self.now in
-    let l = c.in_ok-literal.literal in
+    let l = c.in-Some-Sensing.sensing.sensed in
     let part = c.side-part.result in
     let given : Given self c.args.step l = search rules in
     let tidy : Tidy c.in_ok-row.row.conditions part.words = subst (λ (k : ℕ). Tidy k part.words) c.side-part.ensures.conditions part.tidy in
