@@ -8,7 +8,7 @@ use crate::bank::Bank;
 use crate::fault::BankFault;
 use worlds::step::Literal;
 
-// Kept an enum, since three names tell more than an Option<bool>.
+// An enum, since three names tell more than an `Option<bool>`.
 #[derive(Clone, Copy, PartialEq, Eq, Debug)]
 pub enum Known {
     // the literal is so in every world of the set

@@ -55,8 +55,6 @@ module _ (t : Ticket) (rows : List (List ℕ)) (cap : ℕ) where
   pub set_there : (set : ℕ) → set < length rows → set_at t.conditions (meaning_with t rows cap).held set ≡ set_of t.conditions (slice_index_or rows set [])
   set_there set h = get_or-map (set_of n) rows set [] (λ _. false) h
 
-  -- ## Holds
-
   -- ## A row that is put
 
   abbrev fault_by : Bool → Bool → Option BankFault

@@ -55,8 +55,6 @@ words_all rule words first k h = first.1 (k / 64) (omega arith)
 rejoined : (k : ℕ) → 64 * (k / 64) + k % 64 ≡ k
 rejoined k = omega arith
 
--- ## The side of a sensing step
-
 -- ## The worlds of a row that do not meet a list
 
 -- what is known of the word of the worlds that meet a list
@@ -153,8 +151,6 @@ row_some row j hj fits some n tidy =
 pub empty_row : (n : ℕ) (row : List ℕ) (told : Bool) → n ≤ 10 → Tidy n row → length row ≡ 16 → MatchBool told (AllWithin (λ (x : ℕ). x ≡ 0) row 0 (length row)) ((j : ℕ) × (j < length row) × HoldsAt (λ (x : ℕ). (x ≡ 0 → ⊥) × (x < 2 ^ 64)) row j) → told ≡ none_in n (set_of n row)
 empty_row n row true few tidy long all = row_none row (λ j h. all j 0 (omega arith) (omega arith)) n few
 empty_row n row false few tidy long some = row_some row some.0 (let h : some.0 < length row = some.1 in omega arith) (some.2 0).1 (some.2 0).0 n tidy
-
--- ## Rows are the same exactly where their sets are
 
 -- ## The worlds that meet at least one term
 

@@ -13,8 +13,8 @@ mod keeps;
 #[derive(Drop)]
 pub struct MapBank {
     ticket: Ticket,
-    // The held sets are the first rows, and what lies behind them is of no account. The words stay as they were lent, with
-    // a count beside them, since a bank takes no memory of its own.
+    // The held sets are the first rows, and what lies behind them is of no account. The count stands beside the words, which
+    // whoever makes the bank hands over: no call of a bank takes memory.
     words: Vec<u64>,
     count: usize,
     ghost room: { 16 * count ≤ vec_len words },

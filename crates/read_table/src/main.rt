@@ -16,8 +16,8 @@ fn digit(byte: u8) -> Option<u8> {
 }
 
 // The bytes that a text of hexadecimal digits stands for, filled up with zeros.
-fn bytes_of(heap: Global, text: &str, length: usize) -> anyhow::Result<Vec<u8>> {
-    let mut bytes = Vec::new(heap);
+fn bytes_of(alloc: Global, text: &str, length: usize) -> anyhow::Result<Vec<u8>> {
+    let mut bytes = Vec::new(alloc);
     for pair in text.as_bytes().chunks_exact(2) {
         let (Some(high), Some(low)) = (digit(pair[0]), digit(pair[1])) else {
             return Err(anyhow!("not a hexadecimal digit"));

@@ -24,7 +24,7 @@ use Rattle.ticket.specs.Nodes.{Stands}
 use Rattle.records.specs.Judging.{Place, room, under, bare, value_good, fault_of, opposed, fault_as, record_fault, Judged, ended, faulty, faulty_below, under_literal, under_list, under_effect, under_outcome, under_action, under_sensing, at_top, verdict}
 use Rattle.ticket.specs.Drafts.{Sound, Added}
 
--- the kind that a record is shown as (0: none of them)
+-- the kind that a record is shown as
 abbrev pub tag : Record → ℕ
 tag (shows.Term p) = 1
 tag (shows.Aim p) = 2
