@@ -6,7 +6,7 @@ use anyhow::anyhow;
 use std::alloc::Global;
 use ticket::ticket::Ticket;
 
-// The value of a hexadecimal digit.
+// The value of a hexadecimal digit. By hand, since the library's `to_digit` takes capitals too.
 fn digit(byte: u8) -> Option<u8> {
     match byte {
         b'0'..=b'9' => Some(byte - b'0'),
