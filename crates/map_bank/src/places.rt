@@ -11,7 +11,7 @@ pub(crate) fn first_rows(words: &[u64], count: usize) -> &[[u64; 16]]
     &rows[..count]
 }
 
-// Puts a row at place i, over what lies there.
+// Puts a row at place i, over what lies there. By hand, since `as_chunks_mut` says nothing of what the words end as.
 pub(crate) fn write_row(words: &mut [u64], i: usize, row: &[u64; 16])
     requires { 16 * i + 16 ≤ length words.old }
     ensures { words.new ≡ take (16 * i) words.old ++ (row.now ++ drop (16 * i + 16) words.old) }

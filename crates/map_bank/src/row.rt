@@ -26,7 +26,7 @@ fn union_mask(terms: &[Term], k: usize) -> u64
     requires { (every (every (speaks_within 10)) (map listed terms.now) ≡ true) × (k < 16) }
     ensures { (n : ℕ) (w : World n) (b : ℕ) → b < 64 → number n w ≡ 64 * k + b → bit result b ≡ meets_some n w (map listed terms.now) }
 {
-    // A `for`, as in `meet_mask`: the closure of a fold would have to ask of every term what a turn asks of its own.
+    // A `for`, as in `meet_mask`: the closure of a `fold` would need a `requires` of its own.
     let mut mask = 0;
     for term in terms {
         mask |= meet_mask(term.as_slice(), k);
@@ -82,7 +82,7 @@ impl Row {
     {
         let union = union_words(terms);
         let mut start = Row::empty(n);
-        // The numbers are the worlds; no list holds them.
+        // Over the numbers of worlds, which no list holds.
         for world in 0..1usize << n {
             if has(&union, world) {
                 start.put(world);

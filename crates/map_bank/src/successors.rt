@@ -1,4 +1,5 @@
-// The worlds that an action's outcomes give from a set of worlds.
+// The worlds that an action's outcomes give from a set of worlds. That effects and outcomes are lawful is asked by each function: they
+// are lent by the ticket, whose fact it is, and a type that lends them would be made at each call only to be read out again.
 ghost use Rattle.std.specs.Prelude.{◌≡◌, ℕ, ◌*◌, ◌/◌, ◌<◌, ◌≤◌, true, ◌||◌, map, length};
 ghost use Rattle.worlds.specs.Meaning.{effect_of, outcome_of};
 ghost use Rattle.worlds.specs.Sets.{successor};
@@ -62,7 +63,7 @@ impl Row {
         ensures worlds { (x : ℕ) → in_words self.new.words x ≡ (in_words self.old.words x || some_from (64 * k) 64 (gives from.now.conditions (map effect_of effects.now) from.now.words x)) }
     {
         let masks = effect_masks(effects, k);
-        // The numbers are the worlds; no list holds them.
+        // Over the numbers of the worlds of a word, which no list holds.
         for b in 0..64 {
             let world = 64 * k + b;
             if has(&from.words, world) {

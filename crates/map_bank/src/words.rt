@@ -1,6 +1,7 @@
 // Sets of worlds as sixteen words of 64 bits, a bit for each world number below 1024. The number k of a word is a plain number
 // below 16: a type of its own would be made at each turn over the words, only to be read out again at each index. That a literal speaks of
-// one of ten conditions is asked here and by what calls this: lists are lent as a ticket has them, and a type would need a copy.
+// one of ten conditions is asked here and by what calls this: lists are lent, and a type that lends them would be made
+// at each call only to be read out again.
 ghost use Rattle.std.specs.Prelude.{◌≡◌, ℕ, ◌+◌, ◌*◌, ◌<◌, true, ◌||◌, ◌==◌};
 ghost use Rattle.worlds.specs.Worlds.{World, meets, speaks_within};
 ghost use Rattle.worlds.specs.Tickets.{every};
@@ -24,7 +25,7 @@ pub(crate) fn meet_mask(list: &[Literal], k: usize) -> u64
     requires { (every (speaks_within 10) list.now ≡ true) × (k < 16) }
     ensures { (n : ℕ) (w : World n) (b : ℕ) → b < 64 → number n w ≡ 64 * k + b → bit result b ≡ meets n w list.now }
 {
-    // A `for`: the closure of a fold would have to ask of every literal what a turn asks of its own.
+    // A `for`: the closure of a `fold` would need a `requires` of its own.
     let mut mask = u64::MAX;
     for literal in list {
         mask &= literal_mask(*literal, k);

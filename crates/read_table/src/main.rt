@@ -2,7 +2,7 @@
 // in hexadecimal up to the last one that is not zero; a line of the output is the name and the answer.
 #![tactic(auto)]
 
-use anyhow::anyhow;
+use anyhow::Context;
 use std::alloc::Global;
 use ticket::ticket::Ticket;
 
@@ -19,9 +19,8 @@ fn digit(byte: u8) -> Option<u8> {
 fn bytes_of(alloc: Global, text: &str, length: usize) -> anyhow::Result<Vec<u8>> {
     let mut bytes = Vec::new(alloc);
     for pair in text.as_bytes().chunks_exact(2) {
-        let (Some(high), Some(low)) = (digit(pair[0]), digit(pair[1])) else {
-            return Err(anyhow!("not a hexadecimal digit"));
-        };
+        let high = digit(pair[0]).context("not a hexadecimal digit")?;
+        let low = digit(pair[1]).context("not a hexadecimal digit")?;
         bytes.push((high & 15) * 16 + (low & 15))?;
     }
     bytes.resize(length.max(bytes.len()), 0)?;
@@ -30,12 +29,8 @@ fn bytes_of(alloc: Global, text: &str, length: usize) -> anyhow::Result<Vec<u8>>
 
 fn answer(rt: &HostRuntime, ticket: &mut Ticket, line: &str) -> anyhow::Result<()> {
     let mut parts = line.split(' ');
-    let Some(name) = parts.next() else {
-        return Err(anyhow!("no name"));
-    };
-    let Some(length) = parts.next() else {
-        return Err(anyhow!("no length"));
-    };
+    let name = parts.next().context("no name")?;
+    let length = parts.next().context("no length")?;
     let text = parts.next().unwrap_or("");
     let bytes = bytes_of(rt.alloc(), text, length.parse::<usize>()?)?;
     match ticket.read(bytes.as_slice()) {

@@ -13,6 +13,7 @@ pub struct Head {
 // The bytes with which every ticket file begins.
 const MARK: [u8; 4] = *b"TKT1";
 
+// Not by a `Part`: a file may be too short to have one.
 fn refused(fault: Fault) -> Refusal
     ensures { result ≡ record { fault = fault; «record» = 0 } }
 {
@@ -22,14 +23,14 @@ fn refused(fault: Fault) -> Refusal
 pub fn read_head(file: &[u8]) -> Result<Head, Refusal>
     ensures { ReadsHead file.now result }
 {
-    if file.len() < 8 || file.len() > 32768 || file.len() % 8 != 0 {
+    if !(8..=32768).contains(&file.len()) || file.len() % 8 != 0 {
         return Err(refused(Fault::Length));
     }
     if !file.starts_with(&MARK) {
         return Err(refused(Fault::Mark));
     }
     let conditions = u16::from_le_bytes([file[4], file[5]]);
-    if conditions == 0 || conditions > 32 {
+    if !(1..=32).contains(&conditions) {
         return Err(refused(Fault::Conditions));
     }
     let top = u16::from_le_bytes([file[6], file[7]]);

@@ -6,6 +6,7 @@ ghost use Rattle.records.specs.Layout.{kind};
 use crate::part::Part;
 use crate::refusal::{Fault, Refusal};
 
+// Each case holds the part that it shows, so that a record can be handed on by itself.
 #[derive(Clone, Copy)]
 pub enum Record<'a> {
     Term(Part<'a>),

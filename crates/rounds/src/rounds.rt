@@ -99,6 +99,7 @@ impl<T: Tally> Round<'_, T> {
     pub(crate) fn best_node(&self) -> Option<Tentative<T::Total>>
         ensures { result ≡ best_node T.Tally.le T.Tally.nothing T.Tally.add (graph_of self.now.graph (length self.now.totals.now)) self.now.totals.now }
     {
+        // By number, since moves and totals are asked by it, and of numbers beyond the lists too.
         (0..self.totals.len())
             .filter_map(|node| self.tentative_at(node))
             .reduce(|best, here| better::<T>(best, here))

@@ -3,7 +3,7 @@
 
 mod words;
 
-use anyhow::anyhow;
+use anyhow::Context;
 use std::alloc::Global;
 use std::process::ExitCode;
 use std::{env, fs};
@@ -63,16 +63,11 @@ fn show_ticket(rt: &HostRuntime, ticket: &Ticket) -> anyhow::Result<()> {
 
 // Reads the whole file, or says which file cannot be read, and why.
 fn read_file(rt: &HostRuntime, path: &str) -> anyhow::Result<Vec<u8>> {
-    match fs::read(rt, path) {
-        Ok(file) => Ok(file),
-        Err(e) => Err(anyhow!(format!(in rt.alloc(); "cannot read {path}: {e}")?)),
-    }
+    fs::read(rt, path).context(format_args!("cannot read {path}"))
 }
 
 fn run(rt: &HostRuntime) -> anyhow::Result<()> {
-    let Some(path) = env::args(rt)?.nth(1) else {
-        return Err(anyhow!("usage: show FILE"));
-    };
+    let path = env::args(rt)?.nth(1).context("usage: show FILE")?;
     let file = read_file(rt, path.as_str())?;
     let mut ticket = Ticket::new(rt.alloc())?;
     match ticket.read(file.as_slice()) {
@@ -86,7 +81,7 @@ fn main(rt: HostRuntime) -> anyhow::Result<ExitCode> {
     match run(&rt) {
         Ok(()) => Ok(ExitCode::SUCCESS),
         Err(e) => {
-            eprintln!(rt; "show: {e}")?;
+            eprintln!(rt; "show: {e:#}")?;
             Ok(ExitCode::FAILURE)
         }
     }

@@ -1,5 +1,5 @@
 -- From what the code tests of a record to the rules of judging.
-use Rattle.std.proofs.Common.{◌≡◌, ℕ, ◌<◌, Bool, true, false, cond, not, ◌&&◌, ◌||◌, eqb, leb, List, [], ◌∷◌, ◌++◌, map, length, is_ok, is_some, Some, None, Ok, Err, Option, Result, MatchResult, sym, refl, ap, ◌∙◌, subst, append-nil, arith, length-append}
+use Rattle.std.proofs.Common.{◌≡◌, ℕ, ◌<◌, Bool, true, false, cond, not, ◌&&◌, ◌||◌, eqb, leb, List, [], ◌∷◌, ◌++◌, map, length, is_ok, is_some, Some, None, Ok, Err, Option, Result, sym, refl, ap, ◌∙◌, subst, append-nil, arith, length-append}
 use lib.ListN.{length-map}
 use Rattle.std.proofs.lemmas.List.{map-append}
 use Rattle.std.proofs.lemmas.Bool.{cond-true, or_parts, and_parts, and_from, and_left, eqb-true, leb-false, le-leb, not-false}
@@ -85,10 +85,6 @@ some_none h = let z : ◌≡◌ {A = ℕ} 0 1 = cc in omega arith
 
 ok_err : {X Y : Type 0} {x : X} {y : Y} → ◌≡◌ {A = Result X Y} (Ok x) (Err y) → ⊥
 ok_err h = let z : ◌≡◌ {A = ℕ} 0 1 = cc in omega arith
-
--- what is no error stays so where the error is mapped
-pub ok_stays : {T X D : Type 0} (bad : X → Type 0) (v : Result T X) (r : Result T D) (x : T) → v ≡ Ok x → MatchResult v (λ y. r ≡ Ok y) bad → r ≡ Ok x
-ok_stays bad v r x e m = subst (λ w. MatchResult w (λ y. r ≡ Ok y) bad) e m
 
 -- what a record without fault of its own has passed
 pub record Passes (n kd most standing : ℕ) (over : Bool) (r : List ℕ) : Type 0 where

@@ -7,6 +7,7 @@ ghost use Rattle.records.specs.Judging.{class_good, under_action};
 ghost use Rattle.ticket.specs.Drafts.{ReadsWhole};
 ghost use Rattle.ticket.specs.Gathers.{HoldsAction, AddsOutcome, StepRead};
 
+use crate::append::append;
 use crate::draft::{Draft, gather};
 use crate::literals::push_literal;
 use crate::node::Node;
@@ -27,9 +28,8 @@ fn add_outcome(outcomes: &mut Few<Outcome, 4>, node: &Node<'_>) -> Result<(), Re
     ensures { (ks : List ℕ) → let f = node.now.file.bytes.now in kind node.now.part.bytes.now ≡ 6 → map outcome_of (listed outcomes.old) ≡ map (outcome_at f) (among f 6 ks) → AddsOutcome f node.now.file.conditions ks node.now.part.number (map outcome_of (listed outcomes.old)) (map outcome_of (listed outcomes.new)) result }
 {
     let outcome = node.read(4, outcomes.len(), read_outcome)?;
-    outcomes
-        .push(outcome)
-        .map_err(|_| node.part.refused(Fault::Limit))
+    append(outcomes, outcome);
+    Ok(())
 }
 
 impl Draft for ActionDraft {

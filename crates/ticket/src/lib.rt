@@ -1,6 +1,7 @@
 #![tactic(auto)]
 
 mod action_draft;
+mod append;
 mod chain_reader;
 mod contents;
 mod draft;

@@ -7,6 +7,7 @@ ghost use Rattle.records.specs.Judging.{Place, fault_of, verdict};
 ghost use Rattle.ticket.specs.Drafts.{Reads};
 ghost use Rattle.ticket.specs.Gathers.{TakesLiterals, HoldsLiterals, ListRead};
 
+use crate::append::append;
 use crate::draft::{Draft, gather};
 use crate::node::Node;
 use records::kinds::Record;
@@ -28,8 +29,8 @@ pub(crate) fn push_literal<const N: usize>(
     if is_opposed(list.as_slice(), literal) {
         return Err(node.part.refused(Fault::Opposite));
     }
-    list.push(literal)
-        .map_err(|_| node.part.refused(Fault::Limit))
+    append(list, literal);
+    Ok(())
 }
 
 impl<const N: usize> Draft for Few<Literal, N> {

@@ -8,6 +8,7 @@ ghost use Rattle.records.specs.Judging.{under_outcome};
 ghost use Rattle.ticket.specs.Drafts.{Reads};
 ghost use Rattle.ticket.specs.Gathers.{HoldsEffects, ReadsEffect, OutcomeRead};
 
+use crate::append::append;
 use crate::draft::{Draft, gather};
 use crate::literals::read_literals;
 use crate::node::Node;
@@ -41,9 +42,8 @@ impl Draft for Outcome {
             return Err(node.part.refused(Fault::Kind));
         };
         let effect = read_effect(node, self.effects.as_slice())?;
-        self.effects
-            .push(effect)
-            .map_err(|_| node.part.refused(Fault::Limit))
+        append(&mut self.effects, effect);
+        Ok(())
     }
 }
 

@@ -11,7 +11,7 @@ pub struct Few<T: Copy, const N: usize> {
     ghost within: { len ≤ N },
 }
 
-// Written out, since `Clone` is not derived for a struct with a ghost field.
+// Written out: the check refuses `derive(Clone, Copy)` here, where a type parameter stands beside a ghost field.
 impl<T: Copy, const N: usize> Clone for Few<T, N> {
     ghost is_clone = { λ x y. y ≡ x };
 

@@ -10,8 +10,8 @@ use Rattle.records.specs.Layout.{kind, below}
 use Rattle.records.specs.Judging.{under_action}
 use Rattle.ticket.specs.declared.node.Node.{Node}
 use Rattle.ticket.specs.Nodes.{Stands}
-use Rattle.ticket.specs.Gathers.{OutcomeRead, AddsOutcome}
-use Rattle.ticket.proofs.Records.{counted, ok_stays}
+use Rattle.ticket.specs.Gathers.{OutcomeRead}
+use Rattle.ticket.proofs.Records.{counted}
 use Rattle.ticket.proofs.Readings.{record_read}
 use Rattle.ticket.proofs.action_draft.add_outcome.Goals as goal
 
@@ -37,13 +37,12 @@ returns c = λ ks e same.
     let o = c.in_ok-outcome.outcome in
     let read = record_read _ node 4 _ (Ok o) c.in_ok-outcome.ensures.answer under_action ks 6 (stands node ks _ _ e same c.len.ensures) (is node) (λ w r. r) (λ f ls n above. refl) in
     let few : length l < 4 = subst (λ m. m < 4) c.len.ensures read.1.1 in
-    let pushed = c.push.ensures.items ∙ ap (λ b. cond b (l ++ o ∷ []) l) (lt-ltb _ 4 few) in
-    subst (λ v. AddsOutcome f node.file.conditions ks node.part.number (map outcome_of l) (map outcome_of (listed c.push.new.self)) v) (sym (ok_stays _ _ _ _ (c.push.ensures.answer ∙ ap (λ b. cond b (Ok tt) (Err o)) (lt-ltb _ 4 few)) c.map_err.ensures.cases))
-    (record {
+    let pushed = c.append.ensures ∙ ap (λ b. cond b (l ++ o ∷ []) l) (lt-ltb _ 4 few) in
+    record {
       sound = read.0;
       last = outcome_of o;
       longer = ap (map outcome_of) pushed ∙ map-append outcome_of l (o ∷ []);
       same = read.1.0.same ∙ ap (λ b. map (effect_at f) (among f 7 (chain f (below b)))) node.handed.bytes;
       lawful = read.1.0.lawful;
       room_left = subst (λ m. m < 4) (sym (length-map l outcome_of)) few;
-    })
+    }

@@ -1,4 +1,4 @@
-use Rattle.std.proofs.Common.{◌≡◌, ◌<◌, cond, [], ◌∷◌, ◌++◌, map, length, Some, Ok, Err, sym, ap, ◌∙◌, subst, lit<}
+use Rattle.std.proofs.Common.{◌≡◌, ◌<◌, cond, [], ◌∷◌, ◌++◌, map, length, Some, sym, ap, ◌∙◌, subst, lit<}
 use lib.ListN.{length-map}
 use Rattle.std.proofs.lemmas.List.{map-append}
 use Rattle.std.proofs.lemmas.Result.{err_from_is_err_and}
@@ -6,9 +6,9 @@ use Rattle.std.proofs.lemmas.Bool.{lt-ltb}
 use Rattle.worlds.specs.Meaning.{listed, effect_of}
 use Rattle.records.specs.Layout.{kind, group}
 use Rattle.records.specs.Judging.{room, Judged}
-use Rattle.ticket.specs.Drafts.{Added, Sound}
+use Rattle.ticket.specs.Drafts.{Sound}
 use Rattle.ticket.specs.Gathers.{HoldsEffects}
-use Rattle.ticket.proofs.Records.{ok_stays, wrong_kind, no_room_outcome, kind_is, shows_kind}
+use Rattle.ticket.proofs.Records.{wrong_kind, no_room_outcome, kind_is, shows_kind}
 use Rattle.ticket.proofs.Effects.{effects_more, held_count, held_same, held_lawful}
 use Rattle.ticket.proofs.outcomes.OutcomeDraft.add.Goals as goal
 
@@ -41,10 +41,8 @@ returns c = λ place earlier h.
     let slice = c.as_slice.ensures in
     let read = c.in_ok-effect.ensures earlier seven (held_count _ _ place earlier _ _ h slice) (held_same _ _ place earlier _ _ h slice) (held_lawful _ _ place earlier _ _ h slice) in
     let few : length l < 4 = subst (λ m. m < 4) (length-map c.as_slice.result.now effect_of ∙ ap length slice) read.room_left in
-    let pushed = c.push.ensures.items ∙ ap (λ b. cond b (l ++ e ∷ []) l) (lt-ltb _ 4 few) in
-    let longer = ap (map effect_of) pushed ∙ map-append effect_of l (e ∷ []) ∙ ap (λ xs. map effect_of xs ++ effect_of e ∷ []) (sym slice) in
-    let ok = ok_stays _ _ _ _ (c.push.ensures.answer ∙ ap (λ b. cond b (Ok tt) (Err e)) (lt-ltb _ 4 few)) c.map_err.ensures.cases in
-    subst (λ v. Added f n place earlier node.part.number (HoldsEffects (map effect_of (listed c.push.new.self)) f n place) v) (sym ok) (
+    let pushed = c.append.ensures ∙ ap (λ b. cond b (l ++ e ∷ []) l) (lt-ltb _ 4 few) in
+    let longer = ap (map effect_of) pushed ∙ map-append effect_of l (e ∷ []) ∙ ap (λ xs. map effect_of xs ++ effect_of e ∷ []) (sym slice) in (
       subst (λ w. Sound f n w earlier node.part.number) (sym h.where_it_is) read.sound,
       effects_more f n place earlier node.part.number _ _ _ (subst (λ xs. HoldsEffects (map effect_of xs) f n place earlier) (sym slice) h) read (ap kind (sym node.handed.bytes) ∙ seven) longer,
     )
