@@ -33,6 +33,7 @@ fn effect_masks(effects: &[Effect], k: usize) -> [u64; 4]
     ensures { Masked k effects.now result }
 {
     let mut masks = [0; 4];
+    // By place: nothing is known of what an adapter of `iter_mut` leaves behind.
     for (i, effect) in effects.iter().enumerate() {
         masks[i] = meet_mask(effect.conditions.as_slice(), k);
     }

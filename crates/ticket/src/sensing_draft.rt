@@ -23,7 +23,7 @@ struct SensingDraft {
     sensed: Option<Literal>,
 }
 
-// Takes the sensed literal of a record, the only one of its chain.
+// Takes the sensed literal of a record, the only one of its chain. Judged alone: it has no chain under it for `Node::read` to go on to.
 fn add_sensed(sensed: &mut Option<Literal>, node: &Node<'_>) -> Result<(), Refusal>
     ensures { (ks : List ℕ) → let f = node.now.file.bytes.now in kind node.now.part.bytes.now ≡ 8 → option_to_list sensed.old ≡ map (literal_at f) (among f 8 ks) → AddsSensed f node.now.file.conditions ks node.now.part.number (option_to_list sensed.new) result }
 {
