@@ -3,7 +3,7 @@
 
 mod words;
 
-use anyhow::Context;
+use anyhow::{Context, anyhow};
 use std::alloc::Global;
 use std::process::ExitCode;
 use std::{env, fs};
@@ -63,7 +63,11 @@ fn show_ticket(rt: &HostRuntime, ticket: &Ticket) -> anyhow::Result<()> {
 
 // Reads the whole file, or says which file cannot be read, and why.
 fn read_file(rt: &HostRuntime, path: &str) -> anyhow::Result<Vec<u8>> {
-    fs::read(rt, path).context(format_args!("cannot read {path}"))
+    // In one text, which is cut where it is long; `context` would cut the path alone.
+    match fs::read(rt, path) {
+        Ok(file) => Ok(file),
+        Err(e) => Err(anyhow!(format!(in rt.alloc(); "cannot read {path}: {e}")?)),
+    }
 }
 
 fn run(rt: &HostRuntime) -> anyhow::Result<()> {
@@ -81,7 +85,7 @@ fn main(rt: HostRuntime) -> anyhow::Result<ExitCode> {
     match run(&rt) {
         Ok(()) => Ok(ExitCode::SUCCESS),
         Err(e) => {
-            eprintln!(rt; "show: {e:#}")?;
+            eprintln!(rt; "show: {e}")?;
             Ok(ExitCode::FAILURE)
         }
     }
