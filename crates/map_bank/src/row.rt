@@ -26,7 +26,7 @@ fn union_mask(terms: &[Term], k: usize) -> u64
     requires { (every (every (speaks_within 10)) (map listed terms.now) ≡ true) × (k < 16) }
     ensures { (n : ℕ) (w : World n) (b : ℕ) → b < 64 → number n w ≡ 64 * k + b → bit result b ≡ meets_some n w (map listed terms.now) }
 {
-    // A `for`, as in `meet_mask`: the closure of a `fold` would need a `requires` of its own.
+    // Beside `meet_mask`, and a `for` like it: one function for both would take a closure, which would need a `requires` of its own.
     let mut mask = 0;
     for term in terms {
         mask |= meet_mask(term.as_slice(), k);

@@ -1,5 +1,6 @@
-// The worlds that an action's outcomes give from a set of worlds. That effects and outcomes are lawful is asked by each function: they
-// are lent by the ticket, whose fact it is, and a type that lends them would be made at each call only to be read out again.
+// The worlds that an action's outcomes give from a set of worlds. That effects and outcomes are lawful is
+// asked by each function over them: they are lent out of a step, and it is a fact of the step's ticket. A type that lends them would be
+// made at each call only to be read out again.
 ghost use Rattle.std.specs.Prelude.{◌≡◌, ℕ, ◌*◌, ◌/◌, ◌<◌, ◌≤◌, true, ◌||◌, map, length};
 ghost use Rattle.worlds.specs.Meaning.{effect_of, outcome_of};
 ghost use Rattle.worlds.specs.Sets.{successor};

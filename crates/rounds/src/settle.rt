@@ -49,7 +49,7 @@ impl Graph<'_> {
 
     // Gives each node the least total of any procedure from it, none exactly where there is none, and marks how and as which it
     // was settled. Answers how many have a total. What the lists have beyond the nodes stays as it was.
-    // Totals and marks are lent one by one: working space is the caller's, who may lend working totals apart from marks.
+    // Totals and marks are two slices, not one of pairs: they are the caller's working space, who may keep the one and not the other.
     pub fn settle<T: Tally>(&self, totals: &mut [Option<T::Total>], marks: &mut [Mark]) -> usize
         ensures { Settles T.Tally.le T.Tally.nothing T.Tally.add (graph_of self.now (nodes_in self.now.nodes.now totals.old marks.old)) totals.old marks.old totals.new marks.new result }
     {

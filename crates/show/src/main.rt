@@ -63,7 +63,7 @@ fn show_ticket(rt: &HostRuntime, ticket: &Ticket) -> anyhow::Result<()> {
 
 // Reads the whole file, or says which file cannot be read, and why.
 fn read_file(rt: &HostRuntime, path: &str) -> anyhow::Result<Vec<u8>> {
-    // In one text, which is cut where it is long; `context` would cut the path alone.
+    // One text for path and cause, cut as a whole where it is long; by `context` each would be cut by itself.
     match fs::read(rt, path) {
         Ok(file) => Ok(file),
         Err(e) => Err(anyhow!(format!(in rt.alloc(); "cannot read {path}: {e}")?)),

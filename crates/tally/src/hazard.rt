@@ -19,7 +19,8 @@ impl Tally for Hazard {
 
     ghost lawful = { Prim.search rules };
 
-    // This and the next are as in `Steps`: a default body would ask `Ord` of every tally's totals, a trait between is longer.
+    // This and the next are as in `Steps`: one body for both would need a trait with a least value and an order in which equal
+    // totals are one value, and the library has none.
     fn nothing() -> u16 {
         u16::MIN
     }

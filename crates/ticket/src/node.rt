@@ -1,5 +1,5 @@
-// A record of a chain, in its file: both its links are good. Its kind is a premise of what adds it, since a type for each of eight
-// kinds would serve one function each.
+// A record of a chain, in its file: both its links are good. Its kind is a premise of what adds it, since a type for each kind
+// would serve hardly more than one function.
 ghost use Rattle.std.specs.Prelude.{◌+◌, ◌*◌, ◌≤◌, length};
 ghost use Rattle.ticket.specs.Chains.{Handed};
 

@@ -59,7 +59,7 @@ impl Contents {
         ensures { (terms_of self.new ≡ terms_of other.now) × (aims_of self.new ≡ aims_of other.now) × (steps_of self.new ≡ steps_of other.now) }
     {
         self.clear();
-        // within the room that there is it cannot fail; of what the library has, only `push_reserved` has no Result
+        // within the room that there is it cannot fail; of what adds to a `Vec`, only `push_reserved` has no Result
         let _ = self.terms.extend_from_slice(other.terms.as_slice());
         self.aim = other.aim;
         let _ = self.steps.extend_from_slice(other.steps.as_slice());
