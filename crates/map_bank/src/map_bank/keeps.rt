@@ -129,4 +129,36 @@ mod tests {
         );
         Ok(())
     }
+
+    #[test]
+    fn fifteen_words_have_room_for_none(rt: HostRuntime) -> Result<(), Fail> {
+        let words = [0; 15].to_vec(rt.alloc())?;
+        let mut bank = MapBank::new(rt.alloc(), words)?;
+        let ticket = Ticket::new(rt.alloc())?;
+        assert_eq!(rt; bank.found(&ticket), Err(BankFault::Full));
+        assert_eq!(rt; bank.count(), 0);
+        Ok(())
+    }
+
+    // A file of one term and an aim, both without literals.
+    fn file_of(conditions: u8) -> [u8; 24] {
+        let mut file = *b"TKT1__\x01\0\x01\0\0\0\0\0\x02\0\x02\0\0\0\0\0\0\0";
+        file[4] = conditions;
+        file[5] = 0;
+        file
+    }
+
+    #[test]
+    fn ten_conditions_are_taken_and_eleven_are_not(rt: HostRuntime) -> Result<(), Fail> {
+        let words = [0; 16].to_vec(rt.alloc())?;
+        let mut bank = MapBank::new(rt.alloc(), words)?;
+        let mut ticket = Ticket::new(rt.alloc())?;
+        ticket.read(&file_of(10))?;
+        assert!(rt; bank.found(&ticket).is_ok());
+        assert_eq!(rt; bank.row(0), Some([u64::MAX; 16]), "all 1024 worlds");
+        ticket.read(&file_of(11))?;
+        assert_eq!(rt; bank.found(&ticket), Err(BankFault::Conditions));
+        assert_eq!(rt; bank.row(0), Some([u64::MAX; 16]), "the bank is as it was");
+        Ok(())
+    }
 }
