@@ -1,14 +1,14 @@
 -- Rows of sixteen words: what a loop over the words shows of the set that a row keeps.
 -- Assumes nothing.
-use Rattle.std.proofs.Common.{◌≡◌, ℕ, zero, suc, ◌+◌, ◌-◌, ◌*◌, ◌/◌, ◌%◌, ◌^◌, ◌<◌, ◌≤◌, Bool, true, false, not, ◌&&◌, ◌||◌, eqb, ltb, leb, List, [], ◌∷◌, length, get_or, drop, sym, ap, ◌∙◌, subst, inl, inr, pow-suc, add-one, arith, drop-cons, pow_mono}
+use Rattle.std.proofs.Common.{◌≡◌, ℕ, zero, suc, ◌+◌, ◌-◌, ◌*◌, ◌/◌, ◌%◌, ◌^◌, ◌<◌, ◌≤◌, Bool, true, false, not, ◌&&◌, ◌||◌, eqb, ltb, leb, List, [], ◌∷◌, length, get_or, drop, sym, ap, ◌∙◌, subst, inl, inr, pow-suc, add-one, zero-add, arith, drop-cons, pow_mono}
 use lib.Bits.{bit_and, bit_or}
 use lib.Seq.{drop-length}
 use Rattle.std.specs.Fn.{Called}
 use Rattle.std.specs.Bool.{MatchBool}
-use Rattle.std.specs.List.{AllWithin, HoldsAt}
+use Rattle.std.specs.List.{AllWithin, HoldsAt, range_with_len}
 use denote.Param.Members.{Mut}
 use Rattle.std.specs.Array.{IsFromFnResultFrom, IsFromFnResult}
-use Rattle.std.proofs.Math.Path.{fun_ext}
+use Rattle.std.proofs.lemmas.List.FromFn.{length-range_with_len, get_or-range_with_len}
 use Rattle.std.proofs.lemmas.Nat.{one_shl}
 use Rattle.std.proofs.lemmas.Bool.{both_ways, eqb-false, lt-ltb, cases_eq, cases_lt, cases_Bool, and_parts, and_left}
 use Rattle.std.proofs.lemmas.Bool.Decides.{nat_tests}
@@ -87,11 +87,6 @@ outside_tidy n row made list few tidy first k beyond h =
     ap (in_words made) (sym is) ∙ outside_worlds_at row made list first 10 (omega arith) (world_of 10 k)
     ∙ and_left _ _ (ap (in_words row) is ∙ tidy k beyond h)
 
--- a set meets a list where its worlds that do not are none
-pub meets_outside : (n m : ℕ) (row made : List ℕ) (list : List Literal) (told : Bool) → m ≡ n → ((w : World n) → set_of n made w ≡ (set_of n row w && not (meets n w list))) → told ≡ none_in m (set_of m made) → told ≡ all_meet n (set_of n row) list
-meets_outside n m row made list told same outside none =
-    subst (λ (k : ℕ). told ≡ none_in k (set_of k made)) same none ∙ ap (none_in n) (fun_ext outside)
-
 -- the side of a literal has the worlds that do not meet what is denied there
 pub side_outside : (n : ℕ) (row made : List ℕ) (l denied : Literal) (so : Bool) → ((m : ℕ) (w : World m) → not (holds m w denied) ≡ same_value so (holds m w l)) → ((w : World n) → set_of n made w ≡ (set_of n row w && not (meets n w (denied ∷ [])))) → (w : World n) → set_of n made w ≡ side n l so (set_of n row) w
 side_outside n row made l denied so turned outside w =
@@ -151,6 +146,46 @@ row_some row j hj fits some n tidy =
 pub empty_row : (n : ℕ) (row : List ℕ) (told : Bool) → n ≤ 10 → Tidy n row → length row ≡ 16 → MatchBool told (AllWithin (λ (x : ℕ). x ≡ 0) row 0 (length row)) ((j : ℕ) × (j < length row) × HoldsAt (λ (x : ℕ). (x ≡ 0 → ⊥) × (x < 2 ^ 64)) row j) → told ≡ none_in n (set_of n row)
 empty_row n row true few tidy long all = row_none row (λ j h. all j 0 (omega arith) (omega arith)) n few
 empty_row n row false few tidy long some = row_some row some.0 (let h : some.0 < length row = some.1 in omega arith) (some.2 0).1 (some.2 0).0 n tidy
+
+-- ## A list asked word by word
+
+-- the word of the worlds of word j that do not meet a list is 0, or it is not
+abbrev pub NoneOutside : List ℕ → List Literal → ℕ → Type 0
+NoneOutside row list j = OutsideWord row list j 0
+
+abbrev pub SomeOutside : List ℕ → List Literal → ℕ → Type 0
+SomeOutside row list j = (word : ℕ) × (word < 2 ^ 64) × (word ≡ 0 → ⊥) × OutsideWord row list j word
+
+-- a bit of such a word is that of a world of the row, since the row is tidy
+some_unmet : (n : ℕ) (row : List ℕ) (list : List Literal) (j : ℕ) → j < 16 → Tidy n row → SomeOutside row list j → false ≡ all_meet n (set_of n row) list
+some_unmet n row list j hj tidy there =
+    let found = nonzero_bit 64 there.0 there.1 there.2 in
+    let b = found.0 in
+    let low : b < 64 = found.1 in
+    let k = 64 * j + b in
+    let below : k < 1024 = omega arith in
+    let ten = world_of 10 k in
+    let parts = and_parts (bit (get_or row j 0) b) (not (meets 10 ten list)) (sym (there.3 10 ten b low (number_of_world 10 k below)) ∙ found.2) in
+    let world = tidy_world n row k tidy below (in_row row j b low ∙ parts.0) in
+    some_from n (λ w. set_of n row w && not (meets n w list)) world.0
+    (ap (λ (x : Bool). x && not (meets n world.0 list)) (ap (in_words row) world.1 ∙ in_row row j b low) ∙ sym (there.3 n world.0 b low world.1) ∙ found.2)
+
+-- number j of the numbers below 16
+sixteen : (j : ℕ) → j < 16 → get_or (range_with_len 0 16) j 0 ≡ j
+sixteen j h = get_or-range_with_len 0 16 j 0 h ∙ zero-add j
+
+-- what is told of all words tells whether the set of a row meets a list
+pub meets_by_words : (n : ℕ) (row : List ℕ) (list : List Literal) (told : Bool) → n ≤ 10 → Tidy n row → MatchBool told (AllWithin (NoneOutside row list) (range_with_len 0 16) 0 (length (range_with_len 0 16))) ((j : ℕ) × (j < length (range_with_len 0 16)) × HoldsAt (SomeOutside row list) (range_with_len 0 16) j) → told ≡ all_meet n (set_of n row) list
+meets_by_words n row list true few tidy all =
+    none_from n (λ w. set_of n row w && not (meets n w list)) (λ w outside.
+    let k = number n w in
+    let below : k < 1024 = number_below n w few in
+    let word : k / 64 < 16 = omega arith in
+    let none : NoneOutside row list (k / 64) = subst (NoneOutside row list) (sixteen (k / 64) word) (all (k / 64) 0 (omega arith) (omega (arith, length-range_with_len 0 16))) in
+    both_ways (set_of n row w && not (meets n w list)) (sym (none n w (k % 64) (omega arith) (sym (rejoined k))) ∙ bit_zero (k % 64)) outside)
+meets_by_words n row list false few tidy some =
+    let h : some.0 < 16 = omega (arith, some.1, length-range_with_len 0 16) in
+    some_unmet n row list some.0 h tidy (subst (SomeOutside row list) (sixteen some.0 h) (some.2 0))
 
 -- ## The worlds that meet at least one term
 

@@ -1,5 +1,5 @@
 // Rows: sets of worlds of up to ten conditions, and what a bank asks of them.
-ghost use Rattle.std.specs.Prelude.{◌≡◌, ℕ, ◌+◌, ◌*◌, ◌^◌, ◌<◌, ◌≤◌, true, false, not, ◌&&◌, ◌||◌, ◌==◌, map};
+ghost use Rattle.std.specs.Prelude.{◌≡◌, ℕ, ◌+◌, ◌*◌, ◌^◌, ◌<◌, ◌≤◌, true, false, not, ◌&&◌, ◌||◌, ◌==◌, map, slice_index};
 ghost use Rattle.worlds.specs.Worlds.{World, holds, meets, speaks_within};
 ghost use Rattle.worlds.specs.Tickets.{every, lawful_list, meets_some};
 ghost use Rattle.worlds.specs.Sets.{all_meet, none_in, same_value, side};
@@ -91,13 +91,21 @@ impl Row {
         start
     }
 
+    // Word k of the worlds of the set that do not meet a list.
+    fn outside_word(&self, list: &[Literal], k: usize) -> u64
+        requires { (every (speaks_within 10) list.now ≡ true) × (k < 16) }
+        ensures { (n : ℕ) (w : World n) (b : ℕ) → b < 64 → number n w ≡ 64 * k + b → bit result b ≡ (bit (slice_index self.now.words k) b && not (meets n w list.now)) }
+    {
+        self.words[k] & !meet_mask(list, k)
+    }
+
     // The worlds of the set that do not meet a list.
     fn outside(&self, list: &[Literal]) -> Row
         requires { every (speaks_within 10) list.now ≡ true }
         ensures { Keeps result self.now.conditions (λ w. worlds_of self.now w && not (meets self.now.conditions w list.now)) }
     {
         Row {
-            words: array::from_fn(|k| self.words[k] & !meet_mask(list, k)),
+            words: array::from_fn(|k| self.outside_word(list, k)),
             conditions: self.conditions,
         }
     }
@@ -110,12 +118,12 @@ impl Row {
         self.outside(&[denied(literal, so)])
     }
 
-    // Whether every world of the set meets a list.
+    // Whether every world of the set meets a list. It ends at the first word with a world that does not.
     pub(crate) fn meets(&self, list: &[Literal]) -> bool
         requires { every (speaks_within 10) list.now ≡ true }
         ensures { result ≡ all_meet self.now.conditions (worlds_of self.now) list.now }
     {
-        self.outside(list).is_empty()
+        (0..16).all(|k| self.outside_word(list, k) == 0)
     }
 
     // Whether the set has no world.
