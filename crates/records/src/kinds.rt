@@ -1,6 +1,6 @@
 // The kinds of records: a part of the file shown as what its kind says.
 ghost use Rattle.std.specs.Prelude.{◌≡◌};
-ghost use Rattle.records.specs.Kinds.{recognised};
+ghost use Rattle.records.specs.Kinds.{recognised, shown};
 ghost use Rattle.records.specs.Layout.{kind};
 
 use crate::part::Part;
@@ -17,6 +17,8 @@ pub enum Record<'a> {
     Outcome(Part<'a>),
     Effect(Part<'a>),
     SensedLiteral(Part<'a>),
+    // of a kind that no record has
+    Unknown(Part<'a>),
 }
 
 // A part is shown as what its kind says; a kind that no record has is at fault.
@@ -37,5 +39,14 @@ impl<'a> TryFrom<Part<'a>> for Record<'a> {
             8 => Ok(Record::SensedLiteral(part)),
             _ => Err(part.refused(Fault::Kind)),
         }
+    }
+}
+
+impl<'a> Record<'a> {
+    // Any part, shown as what its kind says.
+    pub fn of(part: Part<'a>) -> Record<'a>
+        ensures { result ≡ shown (kind part.entry.bytes.now) part.entry }
+    {
+        Record::try_from(part).unwrap_or(Record::Unknown(part))
     }
 }

@@ -16,7 +16,7 @@ use Rattle.records.specs.declared.kinds.Record.TheVariants as shows
 use Rattle.records.specs.declared.refusal.Refusal.{Refusal}
 use Rattle.records.specs.declared.refusal.Fault.{Fault}
 use Rattle.records.specs.declared.refusal.Fault.TheVariants.{Kind, Value, Opposite, Limit}
-use Rattle.records.specs.Kinds.{recognised}
+use Rattle.records.specs.Kinds.{recognised, shown}
 use Rattle.records.specs.Layout.{kind, value, below, part, links_good, group}
 use Rattle.records.specs.Content.{among, literals_among, literal_at}
 use Rattle.ticket.specs.declared.node.Node.{Node}
@@ -34,6 +34,25 @@ tag (shows.Literal p) = 5
 tag (shows.Outcome p) = 6
 tag (shows.Effect p) = 7
 tag (shows.SensedLiteral p) = 8
+tag (shows.Unknown p) = 0
+
+abbrev pub held : Record → Part
+held (shows.Term p) = p
+held (shows.Aim p) = p
+held (shows.Action p) = p
+held (shows.Sensing p) = p
+held (shows.Literal p) = p
+held (shows.Outcome p) = p
+held (shows.Effect p) = p
+held (shows.SensedLiteral p) = p
+held (shows.Unknown p) = p
+
+-- a record is shown with its part
+pub shown_held : (kd : ℕ) (p : Part) → held (shown kd p) ≡ p
+shown_held kd p = grind (arith, nat_tests)
+
+pub held_is : (kd : ℕ) (p : Part) (r : Record) → r ≡ shown kd p → held r ≡ p
+held_is kd p r e = ap held e ∙ shown_held kd p
 
 abbrev pub tag_of : Result Record Refusal → ℕ
 tag_of (Ok r) = tag r
