@@ -1,6 +1,5 @@
 -- A search graph over numbers, its finite procedures and their totals.
 use Rattle.std.specs.Prelude.{◌≡◌, ℕ, ◌<◌, min, Bool, true, false, List, map, length, Some, None, Option, option_and_then, slice_get, slice_index_or}
-use Rattle.std.specs.Option.{option_map_or}
 use Rattle.worlds.specs.Steps.{Step}
 use Rattle.worlds.specs.Tickets.{step_at}
 use Rattle.worlds.specs.Meaning.{step_of}
@@ -8,7 +7,6 @@ use Rattle.theory.specs.Procedures.{larger}
 use Rattle.rounds.specs.declared.graph.Graph as code_graph
 use Rattle.rounds.specs.declared.graph.Move.{Move}
 use Rattle.rounds.specs.declared.graph.Move.TheVariants.{Go, Fork}
-use Rattle.rounds.specs.declared.graph.Node.{Node}
 
 -- a search graph: nodes 0 to size - 1 stand for held sets; for each node and step number there is a move, or none: of an
 -- action to the next node, or of a sensing step to the nodes for yes and for no; `ends` says where a procedure may end
@@ -18,26 +16,26 @@ pub record Graph : Type 0 where
   pub move : ℕ → ℕ → Option Move
   pub ends : ℕ → Bool
 
--- where a step leads from a node: a number that is no node has no moves, nor has a node one by a step that is not in its row
-abbrev pub move_at : List Node → (i k : ℕ) → Option Move
-move_at nodes i k = option_and_then (λ (n : Node). slice_index_or n.moves k None) (slice_get nodes i)
+-- where a step leads from a node: a number that has no row has no moves, nor has a node one by a step that is not in its row
+abbrev pub move_at : List (List (Option Move)) → (i k : ℕ) → Option Move
+move_at moves i k = option_and_then (λ (row : List (Option Move)). slice_index_or row k None) (slice_get moves i)
 
--- whether a procedure may end at a node: at a number that is no node it may not
-abbrev pub ends_at : List Node → (i : ℕ) → Bool
-ends_at nodes i = option_map_or (λ (n : Node). n.ends) (slice_get nodes i) false
+-- whether a procedure may end at a node: at a number of which nothing is said it may not
+abbrev pub ends_at : List Bool → (i : ℕ) → Bool
+ends_at ends i = slice_index_or ends i false
 
 -- the graph of so many nodes that the code's graph gives
 abbrev pub graph_of : code_graph.Graph → (size : ℕ) → Graph
 graph_of g size = record {
   size = size;
   steps = map step_of g.steps.now;
-  move = move_at g.nodes.now;
-  ends = ends_at g.nodes.now;
+  move = move_at g.moves.now;
+  ends = ends_at g.ends.now;
 }
 
--- how many nodes three lists have: those numbers that are places of each
-abbrev pub nodes_in : {A B C : Type 0} → List A → List B → List C → ℕ
-nodes_in nodes totals marks = min (length nodes) (min (length totals) (length marks))
+-- how many nodes four lists have: those numbers that are places of each
+abbrev pub nodes_in : {A B C D : Type 0} → List A → List B → List C → List D → ℕ
+nodes_in moves ends totals marks = min (min (length moves) (length ends)) (min (length totals) (length marks))
 
 -- a finite procedure from a node: it ends where it may; or it takes a step by a move to nodes, and goes on from each of
 -- them. A move to a number that is not a node is as good as none

@@ -10,19 +10,14 @@ pub enum Move {
     Fork(u16, u16),
 }
 
-// A node: where each step leads from it, none where the step is not open or the node is not worked; and whether a procedure
-// may end there.
-#[derive(Clone, Copy)]
-pub struct Node {
-    pub moves: [Option<Move>; 32],
-    pub ends: bool,
-}
-
-// A search graph: the steps that its moves are numbered by, and the nodes that its moves lead to.
+// A search graph: the steps that its moves are numbered by; where each step leads from each node, none where the step is not
+// open or the node is not worked; and at which nodes a procedure may end. Moves and ends are two lists, since the same moves are
+// lent with other ends: a floor may end where a ceiling may not. A number that is no place of both is no node.
 #[derive(Clone, Copy)]
 pub struct Graph<'a> {
     pub steps: &'a [Step],
-    pub nodes: &'a [Node],
+    pub moves: &'a [[Option<Move>; 32]],
+    pub ends: &'a [bool],
 }
 
 impl Graph<'_> {
@@ -30,15 +25,15 @@ impl Graph<'_> {
     ghost use Rattle.rounds.specs.Graph.{move_at, ends_at};
 
     pub(crate) fn move_at(&self, node: usize, step: usize) -> Option<Move>
-        ensures { result ≡ move_at self.now.nodes.now node step }
+        ensures { result ≡ move_at self.now.moves.now node step }
     {
-        self.nodes.get(node)?.moves.get(step).copied().flatten()
+        self.moves.get(node)?.get(step).copied().flatten()
     }
 
     pub(crate) fn may_end(&self, node: usize) -> bool
-        ensures { result ≡ ends_at self.now.nodes.now node }
+        ensures { result ≡ ends_at self.now.ends.now node }
     {
-        self.nodes.get(node).is_some_and(|node| node.ends)
+        self.ends.get(node).copied().unwrap_or(false)
     }
 }
 

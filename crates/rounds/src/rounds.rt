@@ -56,7 +56,7 @@ impl<T: Tally> Round<'_, T> {
 
     // The tentative total of a node by a step, of this number.
     fn by_step(&self, node: usize, number: usize, step: &Step) -> Option<Tentative<T::Total>>
-        ensures { result ≡ by_step T.Tally.le T.Tally.nothing T.Tally.add self.now.totals.now node number (move_at self.now.graph.nodes.now node number) (step_of step.now) }
+        ensures { result ≡ by_step T.Tally.le T.Tally.nothing T.Tally.add self.now.totals.now node number (move_at self.now.graph.moves.now node number) (step_of step.now) }
     {
         let rest = self.rest_of(self.graph.move_at(node, number)?)?;
         Some(Tentative {

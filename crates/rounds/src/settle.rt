@@ -51,9 +51,13 @@ impl Graph<'_> {
     // was settled. Answers how many have a total. What the lists have beyond the nodes stays as it was.
     // Totals and marks are two slices, not one of pairs: they are the caller's working space, who may keep the one and not the other.
     pub fn settle<T: Tally>(&self, totals: &mut [Option<T::Total>], marks: &mut [Mark]) -> usize
-        ensures { Settles T.Tally.le T.Tally.nothing T.Tally.add (graph_of self.now (nodes_in self.now.nodes.now totals.old marks.old)) totals.old marks.old totals.new marks.new result }
+        ensures { Settles T.Tally.le T.Tally.nothing T.Tally.add (graph_of self.now (nodes_in self.now.moves.now self.now.ends.now totals.old marks.old)) totals.old marks.old totals.new marks.new result }
     {
-        let size = self.nodes.len().min(totals.len()).min(marks.len());
+        let size = self
+            .moves
+            .len()
+            .min(self.ends.len())
+            .min(totals.len().min(marks.len()));
         let nodes = &mut totals[..size];
         nodes.fill(None);
         self.settle_nodes::<T>(nodes, &mut marks[..size])
