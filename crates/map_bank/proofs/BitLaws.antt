@@ -1,11 +1,11 @@
 -- The bits of what the operations on words give, and that words with the same bits are equal.
 -- Assumes nothing.
-use Rattle.std.specs.Prelude.{◌≡◌, ℕ, zero, suc, ◌-◌, ◌*◌, ◌/◌, ◌%◌, ◌^◌, ◌<◌, Bool, false, not, ◌&&◌, ◌||◌, ◌==◌, nat_eq, refl}
+use Rattle.std.specs.Prelude.{◌≡◌, ℕ, zero, suc, ◌-◌, ◌*◌, ◌/◌, ◌%◌, ◌^◌, ◌<◌, Bool, false, cond, not, ◌&&◌, ◌||◌, ◌==◌, nat_eq, refl}
 use Rattle.std.proofs.Common.{sym, ◌∙◌, ap, subst, div-one, pow-suc, one-add, arith, shr-shr}
 use Rattle.std.proofs.Math.Nat.{zero-div}
 use Rattle.std.proofs.Math.Dec.{eqb-suc-suc}
-use Rattle.std.specs.Int.Bits.{bit_and, bit_or}
-use Rattle.std.proofs.lemmas.Nat.{and_shr, or_shr, and_mod, or_mod, and_mask}
+use Rattle.std.specs.Int.Bits.{bit_and, bit_or, bit_xor}
+use Rattle.std.proofs.lemmas.Nat.{and_shr, or_shr, xor_shr, and_mod, or_mod, xor_mod, and_mask}
 use Rattle.std.proofs.lemmas.Bool.{ne_eqb}
 use Rattle.std.proofs.lemmas.Bool.Decides.{nat_tests}
 use Rattle.map_bank.specs.Bits.{bit}
@@ -34,6 +34,15 @@ digit_or (suc zero) (suc zero) ha hb = refl
 digit_or (suc zero) (suc (suc b)) ha hb = absurd (omega arith)
 digit_or (suc (suc a)) b ha hb = absurd (omega arith)
 
+digit_xor : (a b : ℕ) → a < 2 → b < 2 → (bit_xor a b == 1) ≡ cond (a == 1) (not (b == 1)) (b == 1)
+digit_xor zero zero ha hb = refl
+digit_xor zero (suc zero) ha hb = refl
+digit_xor zero (suc (suc b)) ha hb = absurd (omega arith)
+digit_xor (suc zero) zero ha hb = refl
+digit_xor (suc zero) (suc zero) ha hb = refl
+digit_xor (suc zero) (suc (suc b)) ha hb = absurd (omega arith)
+digit_xor (suc (suc a)) b ha hb = absurd (omega arith)
+
 below_two : (a : ℕ) → a % 2 < 2
 below_two a = omega arith
 
@@ -43,6 +52,9 @@ odd_and a b = ap (λ (x : ℕ). nat_eq x 1) (and_mod a b 1) ∙ digit_and (a % 2
 odd_or : (a b : ℕ) → odd (bit_or a b) ≡ (odd a || odd b)
 odd_or a b = ap (λ (x : ℕ). nat_eq x 1) (or_mod a b 1) ∙ digit_or (a % 2) (b % 2) (below_two a) (below_two b)
 
+odd_xor : (a b : ℕ) → odd (bit_xor a b) ≡ cond (odd a) (not (odd b)) (odd b)
+odd_xor a b = ap (λ (x : ℕ). nat_eq x 1) (xor_mod a b 1) ∙ digit_xor (a % 2) (b % 2) (below_two a) (below_two b)
+
 -- ## The bits of `a & b`, `a | b` and `a ^ b`
 
 pub bit_of_and : (a b i : ℕ) → bit (bit_and a b) i ≡ (bit a i && bit b i)
@@ -50,6 +62,9 @@ bit_of_and a b i = ap odd (and_shr a b i) ∙ odd_and (a / 2 ^ i) (b / 2 ^ i)
 
 pub bit_of_or : (a b i : ℕ) → bit (bit_or a b) i ≡ (bit a i || bit b i)
 bit_of_or a b i = ap odd (or_shr a b i) ∙ odd_or (a / 2 ^ i) (b / 2 ^ i)
+
+pub bit_of_xor : (a b i : ℕ) → bit (bit_xor a b) i ≡ cond (bit a i) (not (bit b i)) (bit b i)
+bit_of_xor a b i = ap odd (xor_shr a b i) ∙ odd_xor (a / 2 ^ i) (b / 2 ^ i)
 
 -- ## Bit 0, and the bits above it
 

@@ -1,7 +1,9 @@
 -- Some world meets two lists of literals exactly where the lists are compatible; and what one more element keeps.
 -- Assumes nothing.
-use Rattle.std.proofs.Common.{◌≡◌, ℕ, zero, suc, ◌-◌, ◌≤◌, Bool, true, false, not, ◌&&◌, ◌||◌, eqb, ltb, leb, List, [], ◌∷◌, ◌++◌, pos, negsuc, neg_ℤ, sym, refl, ap, ◌∙◌, subst, inl, inr, arith}
+use Rattle.std.proofs.Common.{◌≡◌, ℕ, zero, suc, ◌-◌, ◌<◌, ◌≤◌, Bool, true, false, not, ◌&&◌, ◌||◌, eqb, ltb, leb, List, [], ◌∷◌, ◌++◌, length, pos, negsuc, neg_ℤ, Decides, sym, refl, ap, ◌∙◌, subst, inl, inr, arith}
 use lib.IntN.{neg_ℤ-neg_ℤ}
+use Rattle.std.specs.List.{HoldsAt}
+use Rattle.std.proofs.lemmas.Bool.Decides.{Decides-by_or}
 use Rattle.std.proofs.lemmas.Bool.{both_ways, not-true, leb-true, eqb-true, eq-eqb, ne_eqb, and_parts, and_from, or_cases, or_parts, or_from, or_left, or_right, not_from_false, false≢true, cond-false}
 use Rattle.worlds.specs.Worlds.{World, value, world_by, some_world, Literal, opposite, holds, meets, speaks_within, same_literal, has_literal, consistent, compatible}
 use Rattle.worlds.specs.Steps.{Effect, Outcome}
@@ -256,3 +258,10 @@ apart_snoc n (d ∷ es) e fine none =
     and_from _ _
     (not_from_false _ (clashes_later_snoc n d es e (not-true _ parts.0) lacks.0))
     (apart_snoc n es e parts.1 lacks.1)
+
+-- the test for a literal in a list finds it at some place
+pub decides_has_literal : (l : Literal) (ls : List Literal) → Decides (has_literal l ls) ((k : ℕ) × (k < length ls) × HoldsAt (λ y. y ≡ l) ls k)
+decides_has_literal l ls =
+    Decides-by_or (same_literal l) (λ y. y ≡ l) (has_literal l)
+    (λ y. (λ h. sym (same_literal_is l y h), λ e. subst (λ (k : Literal). same_literal l k ≡ true) (sym e) (same_literal_self l)))
+    refl (λ _ _. refl) ls
