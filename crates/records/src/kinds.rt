@@ -17,7 +17,7 @@ pub enum Record<'a> {
     Outcome(Part<'a>),
     Effect(Part<'a>),
     SensedLiteral(Part<'a>),
-    // of a kind that no record has
+    // of a kind that no record has: `of`, which cannot fail, shows such a part so
     Unknown(Part<'a>),
 }
 
