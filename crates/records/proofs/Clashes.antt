@@ -1,5 +1,5 @@
 -- For lawful effects, a clash told by their literals is a clash told by worlds.
-use Rattle.std.proofs.Common.{◌≡◌, ℕ, true, ◌&&◌, ◌||◌, leb, [], ◌∷◌, length, sym, refl, ap, ◌∙◌}
+use Rattle.std.proofs.Common.{◌≡◌, ℕ, Bool, true, false, not, ◌&&◌, ◌||◌, leb, [], ◌∷◌, length, sym, refl, ap, ◌∙◌}
 use Rattle.std.proofs.lemmas.Bool.{and_parts}
 use Rattle.std.proofs.lemmas.Bool.Decides.{same_from_decides}
 use Rattle.worlds.specs.Worlds.{Literal, same_literal, opposite, speaks_within, consistent}
@@ -7,6 +7,11 @@ use Rattle.worlds.specs.Steps.{Effect, Outcome}
 use Rattle.worlds.specs.Tickets.{every, clash, clashes, lawful_list, lawful_effect}
 use Rattle.worlds.proofs.Compatible.{some_world_meets, same_literal_is, same_literal_self}
 use Rattle.records.specs.Conflicts.{conflict, conflicts}
+
+-- a test that turns on two others
+pub not_both : (a b : Bool) → not (not a && b) ≡ (a || not b)
+not_both true b = refl
+not_both false b = refl
 
 -- it does not matter which literal is named first
 turned : (a b : Literal) → same_literal a b ≡ same_literal b a

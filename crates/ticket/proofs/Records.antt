@@ -47,12 +47,22 @@ held (shows.Effect p) = p
 held (shows.SensedLiteral p) = p
 held (shows.Unknown p) = p
 
--- a record is shown with its part
+-- a record is shown with its part, and as its kind
 pub shown_held : (kd : ℕ) (p : Part) → held (shown kd p) ≡ p
 shown_held kd p = grind (arith, nat_tests)
 
+pub shown_tag : (kd : ℕ) (p : Part) → 0 < tag (shown kd p) → kd ≡ tag (shown kd p)
+shown_tag kd p h = grind (arith, nat_tests)
+
 pub held_is : (kd : ℕ) (p : Part) (r : Record) → r ≡ shown kd p → held r ≡ p
 held_is kd p r e = ap held e ∙ shown_held kd p
+
+pub shown_kind : (kd : ℕ) (p : Part) (r : Record) → r ≡ shown kd p → 0 < tag r → kd ≡ tag r
+shown_kind kd p r e some = shown_tag kd p (subst (λ (x : Record). 0 < tag x) e some) ∙ ap tag (sym e)
+
+-- a part that is not shown as a literal, at a place for literals only
+pub not_literal : (p : Part) → ((q : Part) → shown (kind p.bytes.now) p ≡ shows.Literal q → ⊥) → kind p.bytes.now ≡ 5 → ⊥
+not_literal p never e = never p (ap (λ d. shown d p) e)
 
 abbrev pub tag_of : Result Record Refusal → ℕ
 tag_of (Ok r) = tag r
